@@ -32,6 +32,7 @@ next_refused input left limit cs reason at (Some rest) failures taken (refused, 
       octets = refused.octets;
       taken = refused.taken;
       place = refused.place;
+      unfailed = refused.unfailed;
       truncated = refused.truncated;
       hopeless = refused.hopeless;
       why = refused.why;

@@ -1,5 +1,5 @@
 -- What the conversion of messages one after another promises.
-use Rattle.std.specs.Prelude.{◌≡◌, ◌⊎◌, ℕ, List, [], ◌++◌, length, Option, Some, None}
+use Rattle.std.specs.Prelude.{◌≡◌, ◌⊎◌, ◌<◌, ℕ, List, [], ◌++◌, length, Option, Some, None}
 use Rattle.std.specs.List.{All}
 use Rattle.cms_tlv.specs.declared.fault.Fault.{Fault}
 use Rattle.cms_tlv.specs.declared.fault.Fault.TheVariants as faults
@@ -9,10 +9,10 @@ use Rattle.cms_c.specs.Calls.{IsFirstRefusal}
 use Rattle.cms_c.specs.Outcomes.{SaysFault, IsReported}
 use Rattle.cms_c.specs.declared.many.Many.{Many}
 
---- `EndsBy rest limit refusal`: nothing is left; or what is left is refused as a message that more
----   may follow (`IsFirstRefusal`, `IsBegun`)
+--- `EndsBy rest limit refusal`: nothing is left, and the limit is not 0; or what is left is refused
+---   as a message that more may follow (`IsFirstRefusal`, `IsBegun`)
 abbrev pub EndsBy : List ℕ → ℕ → Option Fault → Type 0
-EndsBy rest limit None = rest ≡ []
+EndsBy rest limit None = (rest ≡ []) × (0 < limit)
 EndsBy rest limit (Some (faults.Refused reason at)) =
     IsFirstRefusal Leave rest limit reason at × IsBegun (faults.Refused reason at)
 EndsBy rest limit (Some e) = ⊥

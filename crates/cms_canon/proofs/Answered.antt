@@ -24,7 +24,7 @@ use Rattle.cms_canon.proofs.Conversions.{none_begun}
 
 -- memory was wanted after a message was read
 pub read_in_vain : (r : Reading) (limit : ℕ) (tail : Tail) (m : Whole) → IsRead r limit tail m → ExactFaults r limit tail faults.OutOfMemory
-read_in_vain r limit tail m k = ((m.octets, k.taken, k.message.1), tt)
+read_in_vain r limit tail m k = ((k.unfailed, (m.octets, k.taken, k.message.1)), tt)
 
 module _ (w : Writing) (Answers : ℕ → List ℕ → Type 0) (Faults : Fault → Type 0) (status : ℕ) where
   pub answered : (a : Result Answer Fault) → IfOk a (λ x. Answers x.status x.text.items) → IfErr a Faults
@@ -58,7 +58,7 @@ module _ (left out : Option (List ℕ)) (failures failed status : ℕ) (wanted :
   idle = record { contents_before = out; contents_after = out; failures_before = failed; failures_after = failed }
 
   none : (limit : ℕ) (tail : Tail) → ExactFaults still limit tail faults.OutOfMemory
-  none limit tail = (([], Consumes-nil left, omega arith), tt)
+  none limit tail = ((refl, ([], Consumes-nil left, omega arith)), tt)
 
   given : (limit : ℕ) (with_rest : Bool) → GivenFaults still limit with_rest faults.OutOfMemory
   given limit false = none limit tails.Refuse

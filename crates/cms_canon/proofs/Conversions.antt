@@ -240,11 +240,12 @@ flushed {out = out} {mid = mid} {after = after} {limit = limit} {r = r} p h = re
 
 -- all was written, and the input has ended
 pub finished : {r : Reading} {w : Writing} {limit : ℕ} {b : InHand} → Progress r w limit b → HasEnded r → b.lengths ≡ []
-    → IsBeforeEnd b.count → AreConverted r w limit b.count
-finished {w = w} {limit = limit} p e none few =
+    → IsBeforeEnd b.count → 0 < limit → AreConverted r w limit b.count
+finished {w = w} {limit = limit} p e none few some =
     let n = none_left p.others (sym p.lengths ∙ none) in
     let all : p.done ++ p.others ≡ p.done = ap (λ t. p.done ++ t) n ∙ append-nil p.done in
     record {
+      some_limit = some;
       conversions = p.done ++ p.others;
       are = All-append (IsFaithful limit) p.done p.others p.are_done p.are_others;
       taken = p.taken;
@@ -452,12 +453,12 @@ pub next_took : (mid after : Option (List ℕ)) (some fails limit : ℕ) (c : Ma
 next_took mid after some fails limit c (faults.Refused reason at) (inl k) = (k.0.0.octets, k.0.0.taken, refused_short k.0.0)
 next_took mid after some fails limit c faults.Read (inl k) = (k.0.0.1.0, k.0.0.1.1, k.0.0.1.2)
 next_took mid after some fails limit c (faults.Write written) (inl k) = absurd k.0.0
-next_took mid after some fails limit c faults.OutOfMemory (inl k) = (k.0.0.0, k.0.0.1, k.0.0.2)
+next_took mid after some fails limit c faults.OutOfMemory (inl k) = (k.0.0.1.0, k.0.0.1.1, k.0.0.1.2)
 next_took mid after some fails limit c e (inr k) = ([], k.1, omega arith)
 
 -- memory was wanted for a message that was read
 pub read_in_vain : (r : Reading) (limit : ℕ) (m : Whole) (c : Many) → IsRead r limit tails.Leave m → IsBeforeEnd c → NextFails r limit c faults.OutOfMemory
-read_in_vain r limit m c k few = inl (((m.octets, k.taken, k.message.1), tt), tt, few)
+read_in_vain r limit m c k few = inl (((k.unfailed, (m.octets, k.taken, k.message.1)), tt), tt, few)
 
 -- writing what was still to be written failed
 pub flush_stops : {left middle end out mid after : Option (List ℕ)} {failures now later failed some fails limit : ℕ} {b : InHand}
@@ -571,5 +572,5 @@ none_begun left out failures failed status s =
       Err (stopped b faults.OutOfMemory),
       s,
       fails_next (begun left out failures failed command_limit) refl faults.OutOfMemory
-          (inl ((([], Consumes-nil left, omega arith), tt), tt, (omega arith, omega arith))),
+          (inl (((refl, ([], Consumes-nil left, omega arith)), tt), tt, (omega arith, omega arith))),
     )

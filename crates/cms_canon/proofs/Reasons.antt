@@ -1,22 +1,32 @@
 -- What the octets of a message that is refused say.
-use Rattle.std.proofs.Common.{◌≡◌, inl, inr, ℕ, ◌+◌, ◌≤◌, List, ◌++◌, length, length-append, Option, None, sym, ap, subst, ◌∙◌, arith}
+use Rattle.std.proofs.Common.{◌≡◌, inl, inr, ℕ, ◌+◌, ◌<◌, ◌≤◌, ◌⊎◌, ◌∷◌, [], List, ◌++◌, length, length-append, Option, None, sym, ap, subst, ◌∙◌, arith}
 use Rattle.std.proofs.lemmas.List.{append-nil}
 use Rattle.cms_tlv.specs.declared.fault.Fault.TheVariants as faults
 use Rattle.cms_tlv.specs.declared.fault.Reason.{Reason}
 use Rattle.cms_tlv.specs.declared.fault.Reason.TheVariants.{TooLarge, LengthReserved, LengthTooLong, IndefinitePrimitive, IntegerMalformed, OidMalformed, BooleanMalformed, BitsMalformed, NotSignedData, Trailing}
 use Rattle.cms_tlv.specs.State.{State, Advance, as_list}
 use Rattle.cms_tlv.specs.Refines.{NeedsNoOctets}
-use Rattle.cms_tlv.specs.RefusalReasons.{HeaderSays, SaysWhy}
+use Rattle.cms_tlv.specs.Headers.{IsHeader, IsLength}
+use Rattle.cms_tlv.specs.RefusalReasons.{either_says, HeaderTaken, TiedLast, SaysWhy}
 use Rattle.cms_scalars.specs.Malformed.{IsMalformed}
-use Rattle.cms_scalars.proofs.MalformedLaws.{AreMalformed, both, integer}
-use Rattle.cms_message.proofs.MalformedLaws.{signed_type, signed}
+use Rattle.cms_scalars.proofs.MalformedLaws.{AreMalformed, both, in_turn, integer, after}
+use Rattle.cms_message.specs.ContentInfo.{content_info_fields}
+use Rattle.cms_message.proofs.MalformedLaws.{fields_in}
+use Rattle.cms_tsp.specs.Requests.{time_stamp_req_fields}
+use Rattle.cms_tsp.specs.Responses.{time_stamp_resp_fields}
 use Rattle.cms_tsp.proofs.MalformedLaws.{request_rest, response}
 use Rattle.cms_canon.specs.Kinds.{message}
-use Rattle.cms_canon.specs.Reasons.{SayWhy}
+use Rattle.cms_canon.specs.Reasons.{EndInHeader, SayWhy}
 use Rattle.cms_canon.specs.internal.Steps.{fresh}
 
 pub message_malformed : AreMalformed message.malformed
-message_malformed = both (both signed_type signed) (both (both integer request_rest) response)
+message_malformed = record { within = λ reason b x. subst (IsMalformed reason) (sym x.2) (inside_it reason x.0 x.1 x.3 x.4) }
+  where
+    inside_it : (reason : Reason) (header b : List ℕ) → IsHeader 0x30 header
+        → either_says content_info_fields.malformed (either_says time_stamp_req_fields.malformed time_stamp_resp_fields.malformed) reason b
+        → IsMalformed reason (header ++ b)
+    inside_it reason header b h (inl x) = fields_in reason header b h x
+    inside_it reason header b h (inr x) = after reason header b ((both (in_turn integer request_rest) response).within reason b x)
 
 later : (limit a b : ℕ) (reason : Reason) → a ≤ b → NeedsNoOctets limit a reason → NeedsNoOctets limit b reason
 later limit a b TooLarge l h = omega arith
@@ -36,22 +46,58 @@ module _ (left : Option (List ℕ)) (failures limit : ℕ) (s : State) (more : L
   all_done : s.ahead ≡ None → more ≡ s.done
   all_done none = t.order ∙ ap (λ a. t.read ++ as_list a) none ∙ append-nil t.read ∙ sym t.done
 
+  lacks_more : (reason : Reason) → NeedsNoOctets limit (length s.done) reason → NeedsNoOctets limit (length more) reason
+  lacks_more reason x =
+      later limit (length s.done) (length more) reason (omega
+      (arith, ap length t.order, ap length t.done, length-append t.read (as_list s.ahead))) x
+
+  in_header : {before : List ℕ} {P : ℕ → List ℕ → Type 0} → HeaderTaken (record (fresh left failures limit) { done = before }) s P → EndInHeader more P
+  in_header {before = before} h = record {
+    before = before;
+    identifier = h.identifier;
+    sizes = h.sizes;
+    first = h.first;
+    are = all_done h.none_kept ∙ h.taken;
+    is_identifier = h.is_identifier;
+    says = h.says;
+  }
+
+  -- with a header taken, all that was taken is consumed
+  all_there : {before : List ℕ} {P : ℕ → List ℕ → Type 0} → HeaderTaken (record (fresh left failures limit) { done = before }) s P
+      → length s.done ≡ length more
+  all_there h = sym (ap length (all_done h.none_kept))
+
+  tied_says : (reason : Reason) (at : ℕ) → (t : TiedLast (fresh left failures limit) s (faults.Refused reason at)) → SayWhy limit reason more
+  tied_says TooLarge at (before, inl x) = inl (lacks_more TooLarge x)
+  tied_says TooLarge at (before, inr h) = inr (subst (λ n. EndInHeader more (λ t l. (m : ℕ) × IsLength l m × (limit < n + m))) (all_there h) (in_header h))
+  tied_says LengthReserved at (before, inl x) = absurd x
+  tied_says LengthReserved at (before, inr h) = in_header h
+  tied_says LengthTooLong at (before, inl x) = absurd x
+  tied_says LengthTooLong at (before, inr h) = in_header h
+  tied_says IndefinitePrimitive at (before, inl x) = absurd x
+  tied_says IndefinitePrimitive at (before, inr h) = in_header h
+  tied_says IntegerMalformed at (before, inl x) = absurd x
+  tied_says IntegerMalformed at (before, inr h) = absurd h.says
+  tied_says OidMalformed at (before, inl x) = absurd x
+  tied_says OidMalformed at (before, inr h) = absurd h.says
+  tied_says BooleanMalformed at (before, inl x) = absurd x
+  tied_says BooleanMalformed at (before, inr h) = absurd h.says
+  tied_says BitsMalformed at (before, inl x) = absurd x
+  tied_says BitsMalformed at (before, inr h) = absurd h.says
+  tied_says NotSignedData at (before, inl x) = absurd x
+  tied_says NotSignedData at (before, inr h) = absurd h.says
+  tied_says Trailing at (before, inl x) = absurd x
+  tied_says Trailing at (before, inr h) = absurd h.says
+  tied_says reason at h = tt
+
+  malformed_says : (reason : Reason) → IsMalformed reason more → SayWhy limit reason more
+  malformed_says IntegerMalformed m = m
+  malformed_says OidMalformed m = m
+  malformed_says BooleanMalformed m = m
+  malformed_says BitsMalformed m = m
+  malformed_says NotSignedData m = m
+  malformed_says reason m = absurd m
+
   pub octets_say : (reason : Reason) (at : ℕ) → SaysWhy IsMalformed (fresh left failures limit) s (faults.Refused reason at) → SayWhy limit reason more
-  octets_say reason at (inl x) =
-      inl (subst (λ n. NeedsNoOctets n (length more) reason) t.limit
-      (later s.limit (length s.done) (length more) reason (omega
-      (arith, ap length t.order, ap length t.done, length-append t.read (as_list s.ahead))) x))
-  octets_say reason at (inr (inl h)) =
-      let all = all_done h.none_kept in
-      inr (inl (record {
-        before = h.before;
-        identifier = h.identifier;
-        sizes = h.sizes;
-        first = h.first;
-        are = all ∙ h.taken;
-        is_identifier = h.is_identifier;
-        says =
-            subst (λ n. HeaderSays n (length more) h.first h.sizes reason) t.limit
-            (subst (λ n. HeaderSays s.limit n h.first h.sizes reason) (sym (ap length all)) h.says);
-      }))
-  octets_say reason at (inr (inr h)) = inr (inr (record { before = h.before; contents = h.contents; are = all_done h.none_kept ∙ h.taken; says = h.says }))
+  octets_say reason at (inl h) = tied_says reason at h
+  octets_say reason at (inr m) = malformed_says reason (subst (IsMalformed reason) (sym (all_done m.none_kept ∙ m.taken)) m.says)

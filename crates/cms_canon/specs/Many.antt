@@ -50,10 +50,11 @@ AreSame limit = AllZip
 abbrev pub AreBeforeEnd : List Conversion → Type 0
 AreBeforeEnd cs = (length (messages_of cs) ≤ 2 ^ 62) × (length (ders_of cs) ≤ 2 ^ 62)
 
---- `AreConverted r w limit m`: all of the input is messages within the limit, what is written for
----   them was written in turn, and `m` counts all;
+--- `AreConverted r w limit m`: all of the input is messages within the limit, which is not 0; what
+---   is written for them was written in turn, and `m` counts all;
 --- | the reader did not fail, and they are `AreBeforeEnd`
 pub record AreConverted (r : Reading) (w : Writing) (limit : ℕ) (m : Many) : Type 0 where
+  pub some_limit : 0 < limit
   pub conversions : List Conversion
   pub are : All (IsFaithful limit) conversions
   pub taken : Takes r (messages_of conversions)

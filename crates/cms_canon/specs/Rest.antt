@@ -10,13 +10,14 @@ use Rattle.cms_canon.specs.Streams.{Reading, Takes, TakesAtMost, HasEnded, DidNo
 abbrev pub IsRest : Reading → ℕ → List ℕ → Type 0
 IsRest r limit octets = Takes r octets × HasEnded r × (length octets ≤ limit) × DidNotFail r
 
---- `RestFaults r limit f`: E2: one octet more than `limit` was taken, and `f` gives that number
---- | `Read` comes if the reader failed; at `Read` and if memory runs out, at most `limit` octets
----   were taken
+--- `RestFaults r limit f`: E2: one octet more than `limit` was taken, and `f` gives that number; the
+---   reader did not fail
+--- | `Read` comes if the reader failed, and `OutOfMemory` if it did not; at both, at most `limit`
+---   octets were taken
 abbrev pub RestFaults : Reading → ℕ → Fault → Type 0
 RestFaults r limit (faults.Refused reason at) =
-    (reason ≡ TooLarge) × (at ≡ limit + 1)
+    (reason ≡ TooLarge) × (at ≡ limit + 1) × DidNotFail r
     × ((octets : List ℕ) × Takes r octets × (length octets ≡ limit + 1))
 RestFaults r limit faults.Read = ReadFailed r × TakesAtMost r limit
 RestFaults r limit (faults.Write written) = ⊥
-RestFaults r limit faults.OutOfMemory = TakesAtMost r limit
+RestFaults r limit faults.OutOfMemory = DidNotFail r × TakesAtMost r limit

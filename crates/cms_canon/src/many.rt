@@ -219,7 +219,7 @@ impl Batch {
             → (self.old.count.read < self.new.count.read) × (self.old.count.read ≤ 2 ^ 62)) }
         ensures end { IfOk result.1 (λ more. more ≡ false
             → HasEnded (reading R.left R.failures reader result.0) × (self.new.lengths ≡ [])
-            × IsBeforeEnd self.new.count) }
+            × IsBeforeEnd self.new.count × (0 < limit)) }
     {
         match self.flush_before(reader.at_hand(), writer) {
             Ok(()) => self.read_and_convert(alloc, reader, writer, limit),
@@ -259,7 +259,7 @@ impl Batch {
             → (self.old.count.read < self.new.count.read) × (self.old.count.read ≤ 2 ^ 62)) }
         ensures end { IfOk result.1 (λ more. more ≡ false
             → HasEnded (reading R.left R.failures reader result.0) × (self.new.lengths ≡ [])
-            × IsBeforeEnd self.new.count) }
+            × IsBeforeEnd self.new.count × (0 < limit)) }
     {
         message_laws();
         if self.count.read > MOST || self.count.written > MOST {

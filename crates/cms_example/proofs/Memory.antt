@@ -11,7 +11,7 @@ use Rattle.cms_canon.specs.Kinds.{MessageValue, whole_message, same_message}
 use Rattle.cms_canon.specs.Received.{KeepsReceived}
 use Rattle.cms_fields.specs.Writing.{Writes}
 use Rattle.cms_canon.specs.Messages.{IsRead}
-use Rattle.cms_canon.specs.Streams.{Reading, TakesAtMost, between}
+use Rattle.cms_canon.specs.Streams.{Reading, DidNotFail, TakesAtMost, between}
 use Rattle.cms_canon.specs.Whole.{Whole}
 
 -- the input was one message, and the output is what is written for it
@@ -51,9 +51,9 @@ read_of input given rest limit m r e is h =
     subst (λ o. IsRead (between (Some o) 0 (Some rest) 0) limit Refuse m) e
     (subst (λ x. IfOk x (IsRead (between (Some given) 0 (Some rest) 0) limit Refuse)) is h)
 
--- a message that was read has at most as many octets as the limit
-pub few_taken : (r : Reading) (limit : ℕ) (m : Whole) → IsRead r limit Refuse m → TakesAtMost r limit
-few_taken r limit m h = (m.octets, h.taken, h.message.1)
+-- a message that was read has at most as many octets as the limit, and the reader did not fail
+pub few_taken : (r : Reading) (limit : ℕ) (m : Whole) → IsRead r limit Refuse m → DidNotFail r × TakesAtMost r limit
+few_taken r limit m h = (h.unfailed, (m.octets, h.taken, h.message.1))
 
 -- what is opaque is kept
 pub kept_of :

@@ -1,40 +1,56 @@
--- The contents that a ContentInfo is refused for are malformed.
-use Rattle.std.proofs.Common.{ℕ, zero, suc}
+-- The octets that a ContentInfo is refused for end in what is malformed.
+use Rattle.std.proofs.Common.{◌≡◌, inl, inr, ℕ, zero, suc, List, ◌++◌, sym, subst}
+use Rattle.cms_tlv.specs.declared.fault.Reason.{Reason}
+use Rattle.cms_tlv.specs.Headers.{IsHeader}
+use Rattle.cms_tlv.specs.RefusalReasons.{says_inside, says_later}
 use Rattle.cms_fields.specs.Grammar.{Grammar}
-use Rattle.cms_scalars.proofs.MalformedLaws.{AreMalformed, both, nothing, integer, identifier, content_type}
+use Rattle.cms_scalars.specs.Malformed.{IsMalformed}
+use Rattle.cms_scalars.proofs.MalformedLaws.{AreMalformed, later, inside, both, in_turn, nothing, integer, identifier, content_type, after}
 use Rattle.cms_message.specs.Algorithms.{algorithm_identifier}
 use Rattle.cms_message.specs.Attributes.{signed_attributes}
 use Rattle.cms_message.specs.Countersignatures.{unsigned_attribute}
 use Rattle.cms_message.specs.SignerInfo.{signer_identifier, signer_info, countersignatures_within}
-use Rattle.cms_message.specs.SignedData.{signed_data}
-use Rattle.cms_message.specs.ContentInfo.{signed_data_type, content_info_fields}
+use Rattle.cms_message.specs.SignedData.{encapsulated_content_info, signed_data}
+use Rattle.cms_message.specs.ContentInfo.{signed_data_type, signed_data_content, content_info_fields, content_info}
 
 pub algorithm : AreMalformed algorithm_identifier.malformed
-algorithm = both identifier nothing
+algorithm = inside (in_turn identifier nothing) 0x30
 
 signed_attrs : AreMalformed signed_attributes.malformed
-signed_attrs = both identifier nothing
+signed_attrs = inside (later (inside (in_turn identifier (inside (later nothing) 0x31)) 0x30)) 0xa0
 
 sid : AreMalformed signer_identifier.malformed
-sid = both (both nothing integer) nothing
+sid = both (inside (in_turn nothing integer) 0x30) nothing
 
 unsigned_attr : {C : Type 0} (c : Grammar C) → AreMalformed c.malformed → AreMalformed (unsigned_attribute c).malformed
-unsigned_attr c k = both identifier (both k nothing)
+unsigned_attr c k = inside (in_turn identifier (both (inside k 0x31) (inside (later nothing) 0x31))) 0x30
 
 signer : {C : Type 0} (c : Grammar C) → AreMalformed c.malformed → AreMalformed (signer_info c).malformed
-signer c k = both integer (both sid (both algorithm (both signed_attrs (both algorithm (both nothing (unsigned_attr c k))))))
+signer c k =
+    inside (in_turn integer (in_turn sid (in_turn algorithm (in_turn signed_attrs (in_turn algorithm
+    (in_turn nothing (inside (later (unsigned_attr c k)) 0xa1))))))) 0x30
 
 countersignatures : (d : ℕ) → AreMalformed (countersignatures_within d).malformed
 countersignatures zero = nothing
-countersignatures (suc d) = signer (countersignatures_within d) (countersignatures d)
+countersignatures (suc d) = later (signer (countersignatures_within d) (countersignatures d))
 
-pub signed : AreMalformed signed_data.malformed
+encapsulated : AreMalformed encapsulated_content_info.malformed
+encapsulated = inside (in_turn identifier (inside nothing 0xa0)) 0x30
+
+signed : AreMalformed signed_data.malformed
 signed =
-    both integer (both algorithm (both (both identifier nothing)
-    (both nothing (both nothing (signer (countersignatures_within 4) (countersignatures 4))))))
+    inside (in_turn integer (in_turn (inside (later algorithm) 0x31) (in_turn encapsulated
+    (in_turn (inside (later nothing) 0xa0) (in_turn (inside (later nothing) 0xa1)
+    (inside (later (signer (countersignatures_within 4) (countersignatures 4))) 0x31)))))) 0x30
 
-pub signed_type : AreMalformed signed_data_type.malformed
-signed_type = both identifier content_type
+signed_content : AreMalformed signed_data_content.malformed
+signed_content = inside signed 0xa0
 
-pub content_info : AreMalformed content_info_fields.malformed
-content_info = both signed_type signed
+-- the fields of a ContentInfo, after its header
+pub fields_in : (reason : Reason) (header b : List ℕ) → IsHeader 0x30 header → content_info_fields.malformed reason b → IsMalformed reason (header ++ b)
+fields_in reason header b h (inl (inl x)) = after reason header b (identifier.within reason b x)
+fields_in reason header b h (inl (inr x)) = content_type reason header b h x
+fields_in reason header b h (inr x) = after reason header b ((later signed_content).within reason b x)
+
+pub content_info_ends : AreMalformed content_info.malformed
+content_info_ends = record { within = λ reason b x. subst (IsMalformed reason) (sym x.2) (fields_in reason x.0 x.1 x.3 x.4) }

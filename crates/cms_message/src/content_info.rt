@@ -5,7 +5,6 @@
 ghost use Rattle.std.specs.Prelude.{◌≡◌, None, IfErr, OnOk, OnErr};
 ghost use Rattle.cms_tlv.specs.Spelling.{der};
 ghost use Rattle.cms_tlv.specs.RefusalReasons.{SaysWhy};
-ghost use Rattle.cms_scalars.specs.Malformed.{IsMalformed};
 ghost use Rattle.cms_fields.specs.ReadingCalls.{ReadsContents};
 ghost use Rattle.cms_fields.specs.Writing.{Writes};
 ghost use Rattle.cms_scalars.specs.Borrowed.{borrowed_oid};
@@ -67,7 +66,7 @@ pub fn read_content_info<R: Input>(
     ensures reads { ReadsContents content_info_fields inner ⟦<ContentInfoSpans as Write>⟧.value
         source.old source.new result }
     ensures why { source.old.fault ≡ None
-        → IfErr result (SaysWhy IsMalformed source.old source.new) }
+        → IfErr result (SaysWhy content_info_fields.malformed source.old source.new) }
 {
     content_info_laws();
     read_after_header(source, inner)

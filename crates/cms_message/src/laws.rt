@@ -4,7 +4,6 @@ ghost use mathlib.Core.Logic.{inr};
 ghost use Rattle.cms_tlv.specs.Spelling.{Rules, der};
 ghost use Rattle.cms_tlv.specs.declared.bound.Bound.{Bound};
 ghost use Rattle.cms_tlv.specs.RefusalReasons.{Explained};
-ghost use Rattle.cms_scalars.specs.Malformed.{IsMalformed};
 ghost use Rattle.cms_tlv.specs.Law.{IsField, Reads, ReadsTo};
 ghost use Rattle.cms_fields.specs.Canonical.{IsByDer};
 ghost use Rattle.cms_fields.specs.Received.{LieIn, CountedAlike, times};
@@ -34,7 +33,7 @@ pub fn content_info_laws()
         → ReadsTo m (content_info_fields.spelled m) (λ v. v) content_info_fields.reader }
     ensures by_der { IsByDer content_info.same content_info.spelled }
     ensures explained { (bd : Bound)
-        → Explained IsMalformed 0 bd (content_info_fields.reader bd) }
+        → Explained content_info_fields.malformed 0 bd (content_info_fields.reader bd) }
 {
     ContentInfoFields::law();
     ContentInfoSpans::law();

@@ -87,7 +87,7 @@ module _ (g : Bound → Reader (List (List ℕ))) (bd : Bound) {a b c : State} {
 pub sees_none : (g : Bound → Reader (List (List ℕ))) (bd : Bound) {a b c : State} {xss : List (List Span)} {e : Fault}
     → HasRead view (row_of (parts_of 0x04 g)) tt bd a b tt xss → b.ahead ≡ None → SeesNoSegment bd b c e
     → Failed (rows_of (parts_of 0x04 g) bd) a c e
-sees_none g bd h p (inl l) = fails_then h.so_far (no_memory _ p l.1 l.0)
+sees_none g bd h p (inl l) = fails_then h.so_far (no_memory _ h.sound p l.1 l.0)
 sees_none g bd {a = a} {c = c} {e = e} h p (inr (before, after, mid, t, q, f)) =
     peek_fails view (row_of (parts_of 0x04 g)) tt bd a mid c tt _ e (these_read g bd h p q t) f
 

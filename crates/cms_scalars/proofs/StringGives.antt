@@ -50,7 +50,7 @@ primitive_gave {span = span} id bd q = gave (span ∷ []) (reaches_bind (λ c. g
 
 pub primitive_wants_memory : {a b : State} {span : Span} (id : ℕ) (bd : Bound) → RefinesWithValue seen (primitive_of id bd) a b span
     → {d : State} {e : Fault} → e ≡ faults.OutOfMemory → d ≡ record b { fault = Some e } → Failed (part_of id bd) a d e
-primitive_wants_memory {b = b} id bd q p r = rw (r, p) (fails_then (primitive_gave id bd q).reaches (wants_memory _ b))
+primitive_wants_memory {b = b} id bd q p r = rw (r, p) (fails_then (primitive_gave id bd q).reaches (wants_memory _ b q.sound))
 
 module _ (id : ℕ) (g : Bound → Reader (List (List ℕ))) (bd : Bound) where
   pub peek_fails : {a b : State} {e : Fault} → Failed (peek_of bd) a b e → Failed (parts_of id g bd) a b e
@@ -99,9 +99,9 @@ module _ (id : ℕ) (g : Bound → Reader (List (List ℕ))) (bd : Bound) where
 -- Segments.
 
 pub too_deep : (levels : ℕ) → levels ≡ 0 → (bd : Bound) (s : State) {d : State} {e : Fault}
-    → e ≡ faults.Refused SegmentsTooDeep (position s) → d ≡ record s { fault = Some e } → Failed (segments_of levels bd) s d e
+    → s.fault ≡ None → e ≡ faults.Refused SegmentsTooDeep (position s) → d ≡ record s { fault = Some e } → Failed (segments_of levels bd) s d e
 unfolding segments_of
-too_deep levels z bd s p q = rw (z, q, p) (refuses s SegmentsTooDeep (λ z. cc) (inl tt) (λ ys. refl))
+too_deep levels z bd s n p q = rw (z, q, p) (refuses s SegmentsTooDeep n (λ z. cc) (inl tt) (λ ys. refl))
 
 map_in_turn : {A B : Type 0} (f : A → B) (xss : List (List A)) → in_turn (map (map f) xss) ≡ map f (in_turn xss)
 map_in_turn f [] = refl

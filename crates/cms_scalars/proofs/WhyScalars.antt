@@ -4,9 +4,9 @@ use Rattle.cms_tlv.specs.declared.fault.Reason.{Reason}
 use Rattle.cms_tlv.specs.declared.fault.Reason.TheVariants.{BooleanMalformed, BitsMalformed, SegmentsTooDeep}
 use Rattle.cms_tlv.specs.declared.bound.Bound.{Bound}
 use Rattle.cms_tlv.specs.Reading.{Reader}
-use Rattle.cms_tlv.specs.RefusalReasons.{Explained}
+use Rattle.cms_tlv.specs.RefusalReasons.{Explained, either_says, says_inside, says_nothing}
 use Rattle.cms_tlv.proofs.Inverse.{differ}
-use Rattle.cms_tlv.proofs.Why.{gives_explained, refuses_explained, bound_explained, fewer, primitive_explained, scalar_explained, rows_explained, wider}
+use Rattle.cms_tlv.proofs.Why.{refuses_explained, made_explained, fewer, primitive_explained, scalar_explained, rows_explained, wider}
 use Rattle.cms_fields.specs.Grammar.{Grammar}
 use Rattle.cms_fields.proofs.WhyFields.{holding_told, choice_told, optional_then_told}
 use Rattle.cms_scalars.specs.Bits.{named_bits_of, is_bit_string, bits_of_contents}
@@ -20,41 +20,43 @@ use Rattle.cms_scalars.proofs.Truth as truths
 
 pub bits_told : (bd : Bound) → Explained named_bits_type.malformed 1 bd (named_bits_of bd)
 unfolding named_bits_of
-bits_told bd =
-    bound_explained _ (scalar_explained _ 0x03 is_bit_string BitsMalformed (λ c n. (refl, λ x. differ n (bits.told c x.0 x.1).0.1)) bd)
-    (λ c. gives_explained _ (bits_of_contents c))
+bits_told bd = made_explained _ bits_of_contents
+    (scalar_explained 0x03 _ is_bit_string BitsMalformed (λ c n x. differ n (bits.told c x.0 x.1).0.1) bd)
 
 pub boolean_told : (bd : Bound) → Explained boolean_type.malformed 1 bd (boolean_of bd)
 unfolding boolean_of
-boolean_told bd =
-    bound_explained _ (scalar_explained _ 0x01 is_one_octet BooleanMalformed (λ c n. (refl, λ x. differ n (truths.told c x.0 x.1).0.1)) bd)
-    (λ c. gives_explained _ (is_true c))
+boolean_told bd = made_explained _ is_true
+    (scalar_explained 0x01 _ is_one_octet BooleanMalformed (λ c n x. differ n (truths.told c x.0 x.1).0.1) bd)
 
-module _ {K : Reason → List ℕ → Type 0} where
-  part_told : (id : ℕ) (bd : Bound) → Explained K 1 bd (part_of id bd)
-  unfolding part_of
-  part_told id bd = bound_explained K (primitive_explained K id bd) (λ c. gives_explained K (one_part c))
+part_told : (id : ℕ) (bd : Bound) → Explained says_nothing 1 bd (part_of id bd)
+unfolding part_of
+part_told id bd = made_explained _ one_part (primitive_explained _ id bd)
 
-  parts_told : (id : ℕ) {g : Bound → Reader (List (List ℕ))} → ((bd : Bound) → Explained K 0 bd (g bd)) → (bd : Bound) → Explained K 1 bd (parts_of id g bd)
-  unfolding parts_of
-  parts_told id h bd = bound_explained K (choice_told _ (part_told id) (holding_told (constructed id) h) bd) (λ x. gives_explained K (of_either x))
+-- of a primitive part, and of what is inside a constructed one, nothing is said
+nothing_said : (id : ℕ) (reason : Reason) (b : List ℕ) → either_says says_nothing (says_inside id says_nothing) reason b → says_nothing reason b
+nothing_said id reason b (inl x) = x
+nothing_said id reason b (inr x) = x.4
 
-  segments_told : (n : ℕ) (bd : Bound) → Explained K 0 bd (segments_of n bd)
-  unfolding segments_of
-  segments_told zero bd = fewer K (refuses_explained K SegmentsTooDeep (λ limit at. tt))
-  segments_told (suc n) bd = bound_explained K (rows_explained K (parts_told 0x04 (segments_told n)) bd) (λ pss. gives_explained K (in_turn pss))
+parts_told : (id : ℕ) {g : Bound → Reader (List (List ℕ))} → ((bd : Bound) → Explained says_nothing 0 bd (g bd)) → (bd : Bound)
+    → Explained says_nothing 1 bd (parts_of id g bd)
+unfolding parts_of
+parts_told id h bd = made_explained _ of_either
+    (wider (nothing_said (constructed id)) (choice_told _ (part_told id) (holding_told (constructed id) h) bd))
 
-  pub string_parts_told : (id : ℕ) (bd : Bound) → Explained K 1 bd (octet_string_parts_of id bd)
-  unfolding octet_string_parts_of
-  string_parts_told id bd = parts_told id (segments_told 8) bd
+segments_told : (n : ℕ) (bd : Bound) → Explained says_nothing 0 bd (segments_of n bd)
+unfolding segments_of
+segments_told zero bd = fewer _ (refuses_explained _ SegmentsTooDeep (λ limit at. tt))
+segments_told (suc n) bd = made_explained _ in_turn (wider (λ reason b x. x.3) (rows_explained _ (parts_told 0x04 (segments_told n)) bd))
 
-  pub string_told : (id : ℕ) (bd : Bound) → Explained K 1 bd (octet_string_of id bd)
-  unfolding octet_string_of
-  string_told id bd = bound_explained K (string_parts_told id bd) (λ ps. gives_explained K (join ps))
+pub string_parts_told : (id : ℕ) (bd : Bound) → Explained says_nothing 1 bd (octet_string_parts_of id bd)
+unfolding octet_string_parts_of
+string_parts_told id bd = parts_told id (segments_told 8) bd
+
+pub string_told : (id : ℕ) (bd : Bound) → Explained says_nothing 1 bd (octet_string_of id bd)
+unfolding octet_string_of
+string_told id bd = made_explained _ join (string_parts_told id bd)
 
 pub default_false_told : {W : Type 0} (h : Grammar W) → ((bd : Bound) → Explained h.malformed 0 bd (h.reader bd)) → (bd : Bound)
     → Explained (default_false_then h).malformed 0 bd (default_false_then_of h.reader bd)
 unfolding default_false_then_of
-default_false_told h k bd =
-    bound_explained _ (optional_then_told _ (λ b. wider (λ r c. inl) (boolean_told b)) (λ b. wider (λ r c. inr) (k b)) bd)
-    (λ v. gives_explained _ (with_default_false v))
+default_false_told h k bd = made_explained _ with_default_false (optional_then_told _ boolean_told k bd)

@@ -3,12 +3,12 @@ use Rattle.std.specs.Prelude.{◌==◌, ◌&&◌, ◌||◌, ℕ, List, Bool, tru
 use mathlib.Core.Bool.{beq}
 use Rattle.cms_tlv.specs.Headers.{AreOctets}
 use Rattle.cms_tlv.specs.Spelling.{Rules, ber, minimal, der, ◌⨟◌}
-use Rattle.cms_tlv.specs.RefusalReasons.{either_says}
+use Rattle.cms_tlv.specs.RefusalReasons.{says_malformed, says_then}
 use Rattle.cms_fields.specs.FirstOctets.{is_primitive_octet, are_apart}
 use Rattle.cms_tlv.specs.declared.fault.Reason.TheVariants.{IntegerMalformed, OidMalformed}
 use Rattle.cms_tlv.specs.declared.fault.Reason.TheVariants.{BooleanMalformed, BitsMalformed}
 use Rattle.cms_tlv.specs.declared.fault.Reason.TheVariants.{UnexpectedElement}
-use Rattle.cms_fields.specs.Grammar.{Grammar, piece, primitive, constrained, says_malformed}
+use Rattle.cms_fields.specs.Grammar.{Grammar, piece, primitive, constrained}
 use Rattle.cms_scalars.specs.Bits.{IsNamedBits, named_bits, named_bits_of}
 use Rattle.cms_scalars.specs.Booleans.{truth, boolean, boolean_of, default_false}
 use Rattle.cms_scalars.specs.Booleans.{default_false_then_of}
@@ -54,7 +54,7 @@ named_bits_type = record (piece named_bits (λ v. Unit {0}) bytes_eq) {
   is_field = true;
   reader = named_bits_of;
   read_by = is_not_der;
-  malformed = says_malformed (λ c. (v : List ℕ) × IsNamedBits ber c v) BitsMalformed;
+  malformed = says_malformed 0x03 (λ c. (v : List ℕ) × IsNamedBits ber c v) BitsMalformed;
 }
 
 -- BOOLEAN
@@ -64,7 +64,7 @@ boolean_type = record (piece boolean (λ v. Unit {0}) beq) {
   is_field = true;
   reader = boolean_of;
   read_by = is_not_der;
-  malformed = says_malformed (λ c. (v : Bool) × truth ber c v) BooleanMalformed;
+  malformed = says_malformed 0x01 (λ c. (v : Bool) × truth ber c v) BooleanMalformed;
 }
 
 --- `octet_string_type id`: what `octet_string id` spells [X.690, 8.7]
@@ -87,5 +87,5 @@ default_false_then h = record {
   is_contents = h.is_contents && are_apart 0x100 (λ t. t == 0x01) h.first;
   reader = default_false_then_of h.reader;
   read_by = λ m. is_not_der m && h.read_by m;
-  malformed = either_says boolean_type.malformed h.malformed;
+  malformed = says_then boolean_type.malformed h.malformed;
 }

@@ -1,22 +1,48 @@
--- Which contents octets a message is refused for.
-use Rattle.std.specs.Prelude.{◌≢◌, ℕ, List, Bool}
+-- Which octets a message is refused for, by their contents.
+use Rattle.std.specs.Prelude.{◌≡◌, ◌≢◌, ◌++◌, ℕ, List, Bool}
 use Rattle.cms_tlv.specs.declared.fault.Reason.{Reason}
 use Rattle.cms_tlv.specs.declared.fault.Reason.TheVariants.{IntegerMalformed, OidMalformed}
 use Rattle.cms_tlv.specs.declared.fault.Reason.TheVariants.{BooleanMalformed, BitsMalformed}
 use Rattle.cms_tlv.specs.declared.fault.Reason.TheVariants.{NotSignedData}
+use Rattle.cms_tlv.specs.Frames.{IsElement}
+use Rattle.cms_tlv.specs.Headers.{IsHeader}
 use Rattle.cms_tlv.specs.Spelling.{ber}
 use Rattle.cms_scalars.specs.Scalars.{IsInteger, IsObjectIdentifier}
 use Rattle.cms_scalars.specs.Booleans.{truth}
 use Rattle.cms_scalars.specs.Bits.{IsNamedBits}
 use Rattle.cms_scalars.specs.ObjectIdentifiers.{id_signed_data}
 
---- `IsMalformed reason c`: the contents octets `c` are no INTEGER at E8, no OBJECT IDENTIFIER at
----   E9, no BOOLEAN at E10, no BIT STRING at E11,
---- | and not id-signedData at E17; no contents are for any other reason
+--- `EndInElement octets id P`: the last of the octets are an element with the identifier octet `id`
+---   and contents with `P` [X.690, 8.1.1]
+pub record EndInElement (octets : List ℕ) (id : ℕ) (P : List ℕ → Type 0) : Type 0 where
+  pub before : List ℕ
+  pub element : List ℕ
+  pub contents : List ℕ
+  pub are : octets ≡ before ++ element
+  pub is_element : IsElement element id contents
+  pub says : P contents
+
+--- `EndInContentType octets P`: the last of them are the header of a SEQUENCE (30), and then an
+---   OBJECT IDENTIFIER whose contents have `P`: the content type of a ContentInfo [RFC 5652, 3]
+pub record EndInContentType (octets : List ℕ) (P : List ℕ → Type 0) : Type 0 where
+  pub before : List ℕ
+  pub header : List ℕ
+  pub element : List ℕ
+  pub contents : List ℕ
+  pub are : octets ≡ before ++ (header ++ element)
+  pub is_header : IsHeader 0x30 header
+  pub is_element : IsElement element 0x06 contents
+  pub says : P contents
+
+--- `IsMalformed reason octets`: the octets end in an element whose contents are no INTEGER at E8, no
+---   OBJECT IDENTIFIER at E9, no BOOLEAN at E10, and no BIT STRING at E11
+---   [X.690, 8.3, 8.19, 8.2, 8.6];
+--- | in a content type that is not id-signedData at E17; and in no octets at any other reason
 abbrev pub IsMalformed : Reason → List ℕ → Type 0
-IsMalformed IntegerMalformed c = IsInteger c → ⊥
-IsMalformed OidMalformed c = IsObjectIdentifier c → ⊥
-IsMalformed BooleanMalformed c = (v : Bool) → truth ber c v → ⊥
-IsMalformed BitsMalformed c = (v : List ℕ) → IsNamedBits ber c v → ⊥
-IsMalformed NotSignedData c = c ≢ id_signed_data
-IsMalformed reason c = ⊥
+IsMalformed IntegerMalformed octets = EndInElement octets 0x02 (λ c. IsInteger c → ⊥)
+IsMalformed OidMalformed octets = EndInElement octets 0x06 (λ c. IsObjectIdentifier c → ⊥)
+IsMalformed BooleanMalformed octets = EndInElement octets 0x01 (λ c. (v : Bool) → truth ber c v → ⊥)
+IsMalformed BitsMalformed octets =
+    EndInElement octets 0x03 (λ c. (v : List ℕ) → IsNamedBits ber c v → ⊥)
+IsMalformed NotSignedData octets = EndInContentType octets (λ c. c ≢ id_signed_data)
+IsMalformed reason octets = ⊥

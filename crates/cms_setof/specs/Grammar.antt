@@ -4,6 +4,7 @@ use Rattle.std.specs.List.{All}
 use Rattle.cms_tlv.specs.declared.fault.Reason.TheVariants.{EmptyAttributes}
 use Rattle.cms_tlv.specs.Spelling.{members}
 use Rattle.cms_tlv.specs.Reading.{members_of}
+use Rattle.cms_tlv.specs.RefusalReasons.{says_later}
 use Rattle.cms_fields.specs.Grammar.{Grammar, where_only}
 use Rattle.cms_setof.specs.Readers.{has_member}
 use Rattle.cms_setof.specs.Same.{same_members}
@@ -20,7 +21,7 @@ set_of g = record {
   is_contents = g.is_field;
   reader = members_of g.reader;
   read_by = g.read_by;
-  malformed = g.malformed;
+  malformed = says_later g.malformed;
 }
 
 -- the same, with at least one member

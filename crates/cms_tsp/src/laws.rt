@@ -4,7 +4,6 @@ ghost use Rattle.cms_tlv.specs.Frames.{Frame};
 ghost use Rattle.cms_tlv.specs.Spelling.{Rules, der};
 ghost use Rattle.cms_tlv.specs.declared.bound.Bound.{Bound};
 ghost use Rattle.cms_tlv.specs.RefusalReasons.{Explained};
-ghost use Rattle.cms_scalars.specs.Malformed.{IsMalformed};
 ghost use Rattle.cms_tlv.specs.Law.{IsField, Reads, ReadsTo};
 ghost use Rattle.cms_fields.specs.Canonical.{IsByDer};
 ghost use Rattle.cms_fields.specs.Received.{LieIn, CountedAlike};
@@ -31,7 +30,7 @@ pub fn request_laws()
         → ReadsTo m (time_stamp_req_fields.spelled m) (λ v. v) time_stamp_req_fields.reader }
     ensures by_der { IsByDer time_stamp_req.same time_stamp_req.spelled }
     ensures explained { (bd : Bound)
-        → Explained IsMalformed 0 bd (time_stamp_req_fields.reader bd) }
+        → Explained time_stamp_req_fields.malformed 0 bd (time_stamp_req_fields.reader bd) }
 {
     TimeStampReqFields::law();
     TimeStampReqSpans::law();
@@ -47,7 +46,7 @@ pub fn response_laws()
         → ReadsTo m (time_stamp_resp_fields.spelled m) (λ v. v) time_stamp_resp_fields.reader }
     ensures by_der { IsByDer time_stamp_resp.same time_stamp_resp.spelled }
     ensures explained { (bd : Bound)
-        → Explained IsMalformed 0 bd (time_stamp_resp_fields.reader bd) }
+        → Explained time_stamp_resp_fields.malformed 0 bd (time_stamp_resp_fields.reader bd) }
 {
     TimeStampRespFields::law();
     TimeStampRespSpans::law();

@@ -4,7 +4,6 @@ ghost use Rattle.std.specs.Option.{option_copied};
 ghost use Rattle.cms_tlv.specs.Spelling.{join};
 ghost use Rattle.cms_tlv.specs.RefusalReasons.{SaysWhy};
 ghost use Rattle.cms_fields.specs.ReadingCalls.{ReadsContents};
-ghost use Rattle.cms_scalars.specs.Malformed.{IsMalformed};
 ghost use Rattle.cms_scalars.specs.Borrowed.{borrowed_integer, borrowed_oid, borrowed_pieces};
 ghost use Rattle.cms_message.specs.Spanned.{algorithm_identifier_spanned};
 ghost use Rattle.cms_tsp.specs.Requests.{MessageImprint, TimeStampReq, hash_algorithm, hashed_message, req_version, imprint, req_policy, nonce, cert_req, extensions, after_version, time_stamp_req_fields};
@@ -123,7 +122,7 @@ pub fn read_request<R: Input>(
     ensures reads { ReadsContents time_stamp_req_fields inner
         ⟦<TimeStampReqSpans as Write>⟧.value source.old source.new result }
     ensures why { source.old.fault ≡ None
-        → IfErr result (SaysWhy IsMalformed source.old source.new) }
+        → IfErr result (SaysWhy time_stamp_req_fields.malformed source.old source.new) }
 {
     request_laws();
     read_after_header(source, inner)

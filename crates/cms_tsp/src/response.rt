@@ -7,7 +7,6 @@ ghost use Rattle.std.specs.Option.{option_copied};
 ghost use Rattle.cms_tlv.specs.declared.tags.TheConstants.{SEQUENCE};
 ghost use Rattle.cms_tlv.specs.RefusalReasons.{SaysWhy};
 ghost use Rattle.cms_fields.specs.ReadingCalls.{ReadsContents};
-ghost use Rattle.cms_scalars.specs.Malformed.{IsMalformed};
 ghost use Rattle.cms_scalars.specs.Bits.{borrowed_bits};
 ghost use Rattle.cms_scalars.specs.Borrowed.{borrowed_integer};
 ghost use Rattle.cms_tsp.specs.Responses.{PkiStatusInfo, TimeStampResp, status, status_string, fail_info, status_info, token, status_agrees, time_stamp_resp_fields};
@@ -108,7 +107,7 @@ pub fn read_response<R: Input>(
     ensures reads { ReadsContents time_stamp_resp_fields inner
         ⟦<TimeStampRespSpans as Write>⟧.value source.old source.new result }
     ensures why { source.old.fault ≡ None
-        → IfErr result (SaysWhy IsMalformed source.old source.new) }
+        → IfErr result (SaysWhy time_stamp_resp_fields.malformed source.old source.new) }
 {
     response_laws();
     read_after_header(source, inner)

@@ -153,5 +153,5 @@ IsShort m = (0 < length m.octets) × (length m.octets ≤ 2 ^ 40) × IsWritable 
 
 -- a message or none, and the end
 abbrev pub IsNext : Reading → ℕ → Option Whole → Type 0
-IsNext r limit None = Takes r [] × HasEnded r × DidNotFail r
+IsNext r limit None = Takes r [] × HasEnded r × DidNotFail r × (0 < limit)
 IsNext r limit (Some m) = IsRead r limit tails.Leave m

@@ -46,10 +46,10 @@ IsBehind r tails.Refuse = Takes r [] × HasEnded r × DidNotFail r
 -- what a message is refused for once it was read
 abbrev pub Rejects : Reading → ℕ → Tail → Whole → Fault → Type 0
 Rejects r limit tail m (faults.Refused reasons.TooLarge at) =
-    (r.left_after ≡ r.left_before) × (at ≡ length m.octets) × IsTooLong limit m.value
+    TakesNone r × (at ≡ length m.octets) × IsTooLong limit m.value
 Rejects r limit tail m (faults.Refused reasons.Trailing at) =
     (tail ≡ tails.Refuse) × (at ≡ length m.octets + 1) × IsWritable limit m.value
-    × ((next : ℕ) × Takes r (next ∷ []))
+    × DidNotFail r × ((next : ℕ) × Takes r (next ∷ []))
 Rejects r limit tail m (faults.Refused reason at) = ⊥
 Rejects r limit tail m faults.Read = ReadFailed r × Takes r []
 Rejects r limit tail m (faults.Write written) = ⊥

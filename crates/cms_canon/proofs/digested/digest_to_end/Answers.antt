@@ -39,6 +39,7 @@ returns-then-branch-clause-faults g c =
     let v = c.loop-count.invariant.1 in (
       refl,
       refl,
+      c.in_ok-has_more.ensures.failures ∙ v.failures,
       (
         octets ++ next ∷ [],
         Consumes-trans _ _ _ octets (next ∷ []) v.taken taken,

@@ -1,4 +1,4 @@
-use Rattle.std.proofs.Common.{[], ◌∷◌, ◌++◌, refl, arith}
+use Rattle.std.proofs.Common.{◌∙◌, [], ◌∷◌, ◌++◌, refl, arith}
 use Rattle.std.proofs.lemmas.List.{length-append}
 use Rattle.std.proofs.KnownBytes.{Consumes-trans}
 use Rattle.cms_canon.proofs.rest.read_to_end.Goals as goal
@@ -10,6 +10,7 @@ returns-then-branch-clause-faults g c =
     let v = c.loop-piece.invariant in (
       refl,
       refl,
+      c.in_ok-has_more.ensures.failures ∙ v.failures,
       (
         rest ++ next ∷ [],
         Consumes-trans _ _ _ rest (next ∷ []) v.taken taken,

@@ -44,7 +44,7 @@ returns-then-levels-eq0-clause-refines g t c =
     let next = c.in_ok-peek.ensures.refines c.requires.no_fault in
     let header = c.in_ok-inner.ensures.refines next.sound in
     contents_fail _ _ _ next (told c.in_ok-peek.field-0 c.args.ident c.eq.ensures c.if-eq.false) header
-    (too_deep c.args.levels c.if-levels-eq0.true c.in_ok-inner.inner c.enter.new.self (c.refuse.ensures.refused header.sound)
+    (too_deep c.args.levels c.if-levels-eq0.true c.in_ok-inner.inner c.enter.new.self header.sound (c.refuse.ensures.refused header.sound)
     (c.refuse.ensures.state header.sound))
 
 pub loop-source-init : goal.loop-source-init

@@ -4,7 +4,6 @@ use Rattle.cms_tlv.proofs.Why.{says_why}
 use Rattle.cms_fields.proofs.ReaderLaws.{found_of, within_of}
 use Rattle.cms_scalars.proofs.Strings.{string_parts_read}
 use Rattle.cms_scalars.proofs.WhyScalars.{string_parts_told}
-use Rattle.cms_scalars.specs.Grammar.{octet_string_type}
 use Rattle.cms_scalars.proofs.octets.read_octets.Goals as goal
 
 pub returns-clause-spelled : goal.returns-clause-spelled
@@ -17,7 +16,7 @@ returns-clause-spelled g c s = record {
 
 pub returns-clause-within : goal.returns-clause-within
 returns-clause-within g c =
-    within_of (string_parts_told {K = (octet_string_type g.row.ID).malformed} g.row.ID c.args.bound.now) _ _ _ c.read_string.result
+    within_of (string_parts_told g.row.ID c.args.bound.now) _ _ _ c.read_string.result
     c.read_string.ensures.sticky c.read_string.ensures.refines
 
 pub returns-clause-why : goal.returns-clause-why

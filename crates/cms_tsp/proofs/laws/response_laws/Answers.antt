@@ -1,8 +1,6 @@
 use Rattle.std.proofs.Common.{refl}
-use Rattle.cms_tlv.proofs.Why.{wider}
 use Rattle.cms_fields.proofs.GrammarLaws.{read_but_by_der}
 use Rattle.cms_tsp.specs.Responses.{time_stamp_resp, time_stamp_resp_fields}
-use Rattle.cms_tsp.proofs.MalformedLaws.{response}
 use Rattle.cms_tsp.proofs.laws.response_laws.Goals as goal
 
 pub returns-clause-is_field : goal.returns-clause-is_field
@@ -18,4 +16,4 @@ pub returns-clause-by_der : goal.returns-clause-by_der
 returns-clause-by_der c = (c.law-2.ensures.field refl).by_der
 
 pub returns-clause-explained : goal.returns-clause-explained
-returns-clause-explained c bd = wider response.within ((c.law.ensures.contents refl).explained bd)
+returns-clause-explained c bd = (c.law.ensures.contents refl).explained bd

@@ -73,7 +73,7 @@ returns-then-is_err-clause-refines g c =
     more_moved (λ (s : State) v. g.T.Write.value s.done v) (member_of g.T.Write.grammar.reader) _ c.args.bound _ _ _ _ _ _
     c.loop-set.set _ c.in_ok-span.member c.in_ok-span.ensures.ok.some has peek.1 member in
     rw (c.out_of_memory.ensures.state member.sound, c.out_of_memory.ensures.told member.sound)
-    (fails_then more.so_far (wants_memory _ c.read_member.new.source))
+    (fails_then more.so_far (wants_memory _ c.read_member.new.source member.sound))
 
 pub returns-then-is_err-clause-accounted : goal.returns-then-is_err-clause-accounted
 returns-then-is_err-clause-accounted g c = stops_of _ (returns-then-is_err-clause-refines g c)
