@@ -71,17 +71,20 @@ def is_grammar(definition: Definition) -> bool:
 
 
 def text_without(definition: Definition, fields: Set[str]) -> List[str]:
-    """Returns the lines of a definition without those that declare or give these fields, which have a line each; `..` is in their place."""
+    """Returns the lines of a definition without those that declare or give these fields; `..` is in their place."""
     lines: List[str] = []
+    is_left_out = False
     for line in definition.lines:
+        if is_left_out:
+            is_left_out = not line.endswith(";")
+            continue
         found = re.match(r"( +)(?:pub )?(\w+) [:=] ", line)
         if not found or found[2] not in fields:
             lines.append(line)
             continue
         while lines[-1].startswith(found[1] + "--"):
             lines.pop()
-        if "pub" not in found[0] and not line.endswith(";"):
-            sys.exit(f"{definition.file}: a row that has more than one line: {line}")
+        is_left_out = "pub" not in found[0] and not line.endswith(";")
         if lines[-1] != found[1] + "..":
             lines.append(found[1] + "..")
     return lines
