@@ -63,7 +63,7 @@ def record_of(definition: Definition) -> Record:
     head, _, body = text.partition(" where\n")
     head = re.sub(r"\s+", " ", head)
     fields: List[Field] = []
-    for names, kind in re.findall(r"^  pub ((?:\S+ )+): ((?:.*\n?)(?:    .*\n?)*)", body, re.M):
+    for names, kind in re.findall(r"^  pub ((?:[^\s:()]+ )+): ((?:.*\n?)(?:    .*\n?)*)", body, re.M):
         fields += [Field(name, re.sub(r"\s+", " ", kind).strip()) for name in names.split()]
     return Record(definition.name, split_parameters(head.partition(definition.name)[2].rpartition(":")[0]), fields)
 

@@ -1,6 +1,6 @@
 -- What the calls by digests promise.
-use Rattle.std.specs.Prelude.{◌≡◌, ◌⊎◌, ℕ, List, [], ◌∷◌, ◌++◌, map, take, Option, Some, None, ◌==◌}
-use Rattle.std.specs.Prelude.{true, option_to_list, if◌then◌else◌}
+use Rattle.std.specs.Prelude.{◌≡◌, ◌≢◌, ◌⊎◌, ℕ, List, [], ◌∷◌, ◌++◌, map, take, Option, Some, None, ◌==◌}
+use Rattle.std.specs.Prelude.{true, false, option_to_list, if◌then◌else◌}
 use Rattle.std.specs.List.{Contains, find}
 use Rattle.cms_tlv.specs.declared.fault.Fault.TheVariants as faults
 use Rattle.cms_tsp.specs.TstInfo.{TstInfo, IsTstInfoOf}
@@ -96,11 +96,11 @@ LacksAsked asked given lacks.NoDigest = LacksDigest asked given
 LacksAsked asked given l = ⊥
 
 --- `LacksForContent v given l`, `LacksForData v given l`: why the digests that are given do not
----   suffice, of the content: it is needed itself, or a digest of it
---- | is not among them; or of the data that were time-stamped; or memory ran out
+---   suffice, of the content: it is needed itself, or else a digest of it is not among them; or of
+---   the data that were time-stamped; or memory ran out
 abbrev pub LacksForContent : MessageValue → List Digest → Lack → Type 0
 LacksForContent v given lacks.NeedsContent = needs_content v ≡ true
-LacksForContent v given l = LacksAsked (asked_of_content v) given l
+LacksForContent v given l = (needs_content v ≡ false) × LacksAsked (asked_of_content v) given l
 
 abbrev pub LacksForData : MessageValue → List Digest → Lack → Type 0
 LacksForData v given (lacks.Fault faults.OutOfMemory) = Unit {0}
@@ -113,14 +113,14 @@ abbrev pub IfGiven : (List Digest → Type 0) → Option (List Digest) → Type 
 IfGiven Lacking None = ⊥
 IfGiven Lacking (Some given) = Lacking given
 
---- `LacksForFindings v content stamped l`: either of the two, of digests that are given; or memory
----   ran out
+--- `LacksForFindings v content stamped l`: either of the two, of digests that are given, and of the
+---   data only if the content is not needed in place of its digests; or memory ran out
 abbrev pub LacksForFindings : MessageValue → Option (List Digest) → Option (List Digest) → Lack
     → Type 0
 LacksForFindings v content stamped (lacks.Fault faults.OutOfMemory) = Unit {0}
 LacksForFindings v content stamped l =
     IfGiven (λ given. LacksForContent v given l) content
-    ⊎ IfGiven (λ given. LacksForData v given l) stamped
+    ⊎ ((content ≢ None → needs_content v ≡ false) × IfGiven (λ given. LacksForData v given l) stamped)
 
 --- `AreFoundByDigests v content stamped items`: for whatever content and data have the digests that
 ---   are given, the items are the findings of the message

@@ -2,10 +2,11 @@
 //!
 //! A caller digests what does not fit into memory, in pieces and by a library of its own. It is asked for
 //! the digests by number, so that it needs no object identifiers, and hands over structs of one size.
-ghost use Rattle.std.specs.Prelude.{◌≡◌, List, ℕ, Option, None, Some, take, IfOk, IfErr};
+ghost use Rattle.std.specs.Prelude.{◌≡◌, ◌≢◌, List, ℕ, Option, None, Some, take, false, IfOk, IfErr, OnOk};
 ghost use Rattle.std.specs.Option.{IfSome, option_copied};
 ghost use Rattle.cms_check.specs.Digests.{AreDigestsOf, digest_length, digest_octets};
 ghost use Rattle.cms_check.specs.Known.{Correspond};
+ghost use Rattle.cms_canon.specs.Asked.{needs_content};
 ghost use Rattle.cms_c.specs.Calls.{FailsBy, items_passed, limit_of_c};
 ghost use Rattle.cms_c.specs.Digests.{AreAsked, AreAskedByInput, AreDigestsOfC, AreFoundByDigests, AreFoundInInput, FailsByDigests, IfGiven, IsAsked, IsCheckByDigests, LacksAsked, LacksForContent, LacksForData, LacksForFindings, algorithm_number, content_asked, digest_given};
 
@@ -190,6 +191,8 @@ fn content_digests(
     ensures ok { IfOk result (λ digests. (m : Option (List ℕ))
         → Correspond AreDigestsOfC (option_copied given.entry) m
         → Correspond AreDigestsOf digests m) }
+    ensures not_needed { OnOk result (option_copied given.entry ≢ None
+        → needs_content message.now.value ≡ false) }
     ensures err { IfErr result (λ l. IfGiven (λ ds. LacksForContent message.now.value ds l)
         (option_copied given.entry)) }
 {

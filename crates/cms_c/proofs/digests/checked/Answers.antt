@@ -17,12 +17,12 @@ refuted Lacking never (Some ds) h = never ds h
 lacks_of_input : (input : List ℕ) (limit : ℕ) (content stamped : Option (List Digest)) (v : MessageValue) → IsAccepted input limit v
     → (l : Lack) → LacksForFindings v content stamped l → FailsByDigests input limit content stamped l
 lacks_of_input input limit content stamped v a (lacks.Fault faults.OutOfMemory) h = tt
-lacks_of_input input limit content stamped v a (lacks.Fault (faults.Refused reason at)) (inl h) = absurd (refuted _ (λ ds x. x) content h)
-lacks_of_input input limit content stamped v a (lacks.Fault (faults.Refused reason at)) (inr h) = absurd (refuted _ (λ ds x. x.2) stamped h)
-lacks_of_input input limit content stamped v a (lacks.Fault faults.Read) (inl h) = absurd (refuted _ (λ ds x. x) content h)
-lacks_of_input input limit content stamped v a (lacks.Fault faults.Read) (inr h) = absurd (refuted _ (λ ds x. x.2) stamped h)
-lacks_of_input input limit content stamped v a (lacks.Fault (faults.Write written)) (inl h) = absurd (refuted _ (λ ds x. x) content h)
-lacks_of_input input limit content stamped v a (lacks.Fault (faults.Write written)) (inr h) = absurd (refuted _ (λ ds x. x.2) stamped h)
+lacks_of_input input limit content stamped v a (lacks.Fault (faults.Refused reason at)) (inl h) = absurd (refuted _ (λ ds x. x.1) content h)
+lacks_of_input input limit content stamped v a (lacks.Fault (faults.Refused reason at)) (inr h) = absurd (refuted _ (λ ds x. x.2) stamped h.1)
+lacks_of_input input limit content stamped v a (lacks.Fault faults.Read) (inl h) = absurd (refuted _ (λ ds x. x.1) content h)
+lacks_of_input input limit content stamped v a (lacks.Fault faults.Read) (inr h) = absurd (refuted _ (λ ds x. x.2) stamped h.1)
+lacks_of_input input limit content stamped v a (lacks.Fault (faults.Write written)) (inl h) = absurd (refuted _ (λ ds x. x.1) content h)
+lacks_of_input input limit content stamped v a (lacks.Fault (faults.Write written)) (inr h) = absurd (refuted _ (λ ds x. x.2) stamped h.1)
 lacks_of_input input limit content stamped v a lacks.NoSignedData h = (v, a, h)
 lacks_of_input input limit content stamped v a lacks.NoSigner h = (v, a, h)
 lacks_of_input input limit content stamped v a lacks.NoContent h = (v, a, h)
