@@ -36,8 +36,8 @@ Meaning = Union[Definition, str]
 
 
 class Section(NamedTuple):
-    """A section of the page: its title, what it is about, and its files, each with the names of those of its definitions that are in it; none
-    for all that no other section names."""
+    """A section of the page: its title, what it is about, and its files. Each has the names of those of its definitions that are in the section,
+    or none if all are that no other section names."""
 
     title: str
     words: str
@@ -78,16 +78,20 @@ SECTIONS = (
     ),
     Section(
         "How records are put together",
-        "A grammar describes a field, which is one element, or contents, which are the fields between a header and its end: how they are spelled, and "
-        "which values are the same. Together these follow X.690, 8.9 to 8.14.",
-        {f"{it}.antt": "" for it in ("cms_setof/Same", "cms_fields/Choices", "cms_fields/Selected", "cms_fields/Grammar", "cms_setof/Grammar", "cms_scalars/Grammar")},
+        "A grammar describes a field, which is one element, or contents, which are the fields between a header and its end: how they are "
+        "spelled, and which values are the same. What is put together follows X.690, 8.9 to 8.14.",
+        {
+            **{"cms_setof/Same.antt": "", "cms_fields/Choices.antt": "", "cms_fields/Selected.antt": "", "cms_fields/Grammar.antt": ""},
+            **{"cms_setof/Grammar.antt": "", "cms_scalars/Grammar.antt": ""},
+        },
     ),
     Section(
         "The records of RFC 5652 and RFC 3161",
-        "Each type of these standards has the type of its values, which are nested pairs; a definition for each field, which takes the first part of a "
-        "pair (`.0`) or the second (`.1`); and a grammar.",
+        "Each type of these standards has the type of its values, which are nested pairs; a definition for each field, which takes the first "
+        "part of a pair (`.0`) or the second (`.1`); and a grammar.",
         {
-            **{f"cms_message/{it}.antt": "" for it in ("Algorithms", "Choices", "Attributes", "Countersignatures", "SignerInfo", "SignedData", "ContentInfo")},
+            **{f"cms_message/{it}.antt": "" for it in ("Algorithms", "Choices", "Attributes", "Countersignatures")},
+            **{f"cms_message/{it}.antt": "" for it in ("SignerInfo", "SignedData", "ContentInfo")},
             **{f"cms_tsp/{it}.antt": "" for it in ("Requests", "Responses", "TstInfo")},
             "cms_canon/Kinds.antt": "",
         },
@@ -109,8 +113,8 @@ SECTIONS = (
     ),
     Section(
         "What is refused",
-        "Octets are hopeless if no message begins with them, and they say why they are refused: what X.690, 8.1 to 8.19, does not allow, or a limit of "
-        "the library.",
+        "Octets are hopeless if no message begins with them. They say why they are refused: for what X.690, 8.1 to 8.19, does not allow, or "
+        "for a limit of the library.",
         {
             **{"cms_tlv/Clauses.antt": "", "cms_scalars/Malformed.antt": "", "cms_canon/Reasons.antt": ""},
             "cms_canon/Messages.antt": "IsMessage IsDerOf IsWritable IsTooLong Hopeless IsPast",
@@ -369,17 +373,19 @@ The only other fault that it returns is that memory ran out. That there is enoug
 
 READING = """## How to read on
 
-The contracts reach {count} definitions of this repository, of {lines} lines. They rest on the types of the code, which come first, and on
-definitions of the kit, which are named last. The contracts themselves are before these.
+The contracts reach {count} definitions of this repository, of {lines} lines. They are in sections, from below, and the contracts come after
+them. They rest on the types of the code, which come first, and on definitions of the kit, which are named last.
 
 A **grammar** says in its rows how a value is spelled, which values are the same, and more that serves reading. The contracts read only its
-rows {read}, and no definition here projects another one. So the other rows are left out, and `..` is in their place.{rules} What is
-only handed to them is not read either, and is not here:
+rows {read}, and no definition here projects another one. So the other rows are left out, and `..` is in their place.
+What is only handed to them is not read either, and is not here:
 {handed}.
+{rules}
 """
 
-OTHER_RULES = """ The rules that they reach are BER
-(`ber`) and DER (`der`); clauses of definitions for a third member of `Rules` are left out too."""
+OTHER_RULES = """
+The contracts reach two members of `Rules`: BER (`ber`) and DER (`der`). The third, which nothing else here names, is left out with the
+clauses for it."""
 
 KIT = """## Definitions of the kit
 
@@ -460,7 +466,8 @@ def parts_of(statement: Statement) -> List[List[Definition]]:
             parts[section_of(it)].append(it)
     places = [{file: at for at, file in enumerate(it.files)} for it in SECTIONS]
     lines = {it.key: [*statement.module_of(it).definitions].index(it.name) for part in parts for it in part}
-    return [from_below(statement, sorted(part, key=lambda it: (at[name_of(it.file)], lines[it.key]))) for at, part in zip(places, parts)]
+    sorted_parts = [sorted(part, key=lambda it: (at[name_of(it.file)], lines[it.key])) for at, part in zip(places, parts)]
+    return [from_below(statement, part) for part in sorted_parts]
 
 
 def texts_of(statement: Statement, definitions: List[Definition]) -> Iterator[str]:
@@ -546,7 +553,8 @@ def page_of(statement: Statement) -> str:
     read = {*statement.library.find(*GRAMMAR).members()} - statement.left_out
     handed = names_handed_on(statement, {it.key for it in statement.order})
     rules = OTHER_RULES if MINIMAL in statement.left_out else ""
-    lines = [WORDS, READING.format(count=len(ours), lines=count_of(statement, ours), read=code(sorted(read)), rules=rules, handed=wrapped(code(handed)))]
+    counts = {"count": len(ours), "lines": count_of(statement, ours)}
+    lines = [WORDS, READING.format(**counts, read=code(sorted(read)), handed=wrapped(code(handed)), rules=rules)]
     lines += ["## Types of the code\n", *types_of(statement)]
     for number, (section, part) in enumerate(zip(SECTIONS, parts_of(statement)), 1):
         lines += [f"## {number}. {section.title}\n", wrapped(section.words) + "\n", *texts_of(statement, part)]

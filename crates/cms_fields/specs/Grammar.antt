@@ -158,7 +158,7 @@ opaque_among allowed = record (received (IsOpaqueAmong allowed)) {
   read_by = λ m. true;
 }
 
---- `strict g`: the field `g` by DER, by any rules; the value has its octets too [`AlreadyDer`]
+--- `strict g`: the field `g` in DER, whatever the rules are, and its octets [`AlreadyDer`]
 abbrev pub strict : {V : Type 0} → Grammar V → Grammar (List ℕ × V)
 strict g = record {
   spelled = λ m. with_octets (g.spelled der);

@@ -27,7 +27,7 @@ abbrev pub SignedAttributes : Type 0
 SignedAttributes = List ℕ × List Attribute
 
 -- SignedAttributes ::= SET SIZE (1..MAX) OF Attribute; signedAttrs is [0] IMPLICIT
---- `signed_attributes`: A0 of attributes, at least one, in DER by any rules [RFC 5652, 5.3]
+--- `signed_attributes`: A0 of attributes, at least one, always in DER [RFC 5652, 5.3]
 abbrev pub signed_attributes : Grammar SignedAttributes
 signed_attributes = strict (tagged 0xa0 (some_of attribute))
 

@@ -34,8 +34,8 @@ abbrev pub signed_data_content : Grammar SignedData
 signed_data_content = last (tagged 0xa0 (last signed_data))
 
 -- ContentInfo ::= SEQUENCE { contentType ContentType, content [0] EXPLICIT ANY DEFINED BY
--- contentType }: its fields
---- `content_info_fields`: the one, then the other [RFC 5652, 3]
+-- contentType }
+--- `content_info_fields`: its fields [RFC 5652, 3]
 abbrev pub content_info_fields : Grammar ContentInfo
 content_info_fields = then_by signed_data_type signed_data_content
 
