@@ -67,7 +67,7 @@ second digits = two_from 12 digits
 abbrev pub HasDate : List ℕ → Type 0
 HasDate digits = IsCivilDate (pos (year digits)) (month digits) (day digits)
 
---- `HasTimeOfDay d`: hour at most 23, minute and second 59 [X.680, 46; no leap second: ours]
+--- `HasTimeOfDay d`: hours to 23, minutes and seconds to 59 [X.680, 46; no leap second: ours]
 abbrev pub HasTimeOfDay : List ℕ → Type 0
 HasTimeOfDay digits = (hour digits ≤ 23) × (minute digits ≤ 59) × (second digits ≤ 59)
 
