@@ -334,8 +334,8 @@ WORDS = """# The headline
 
 What the library promises, in one statement: the contract of `both`, and that of `written_or_refused` for what is refused. Both are functions
 of [crates/cms_example](../crates/cms_example/src/lib.rt), which a user of the library could have written: they call it, and what they
-promise is proved from its public contracts alone. Below is each definition that the two contracts reach, from below: it comes after those
-that it uses. [DEFINITIONS.md](DEFINITIONS.md) says in words what each of them says.
+promise is proved from its public contracts alone. This page has each definition that the two contracts reach, from below: it comes after
+those that it uses, unless they use one another. [DEFINITIONS.md](DEFINITIONS.md) says in words what each of them says.
 
 `scripts/headline.py` writes this page from the sources. `tests/lint_repo.py` checks that it is up to date, and that each name in it means
 a definition of this page, something that the kit or the code declares, or a variable.
@@ -386,6 +386,16 @@ What is only handed to them is not read either, and is not here:
 OTHER_RULES = """
 The contracts reach two members of `Rules`: BER (`ber`) and DER (`der`). The third, which nothing else here names, is left out with the
 clauses for it."""
+
+TYPES = """## Types of the code
+
+How a call ends, why octets are refused, and what may follow a message.
+"""
+
+CONTRACTS = """## The contracts
+
+What the two functions promise, in the words of the definitions above.
+"""
 
 KIT = """## Definitions of the kit
 
@@ -440,21 +450,23 @@ def stale_names(definitions: List[Definition]) -> Iterator[str]:
 
 
 def from_below(statement: Statement, definitions: List[Definition]) -> List[Definition]:
-    """Returns definitions in an order in which each comes after those of them that it uses, unless they use one another."""
-    keys = {it.key for it in definitions}
+    """Returns definitions in an order in which each comes after those of them that it uses. Those of a file are given in the order of its lines;
+    one that uses a later one, as they use one another, comes before that."""
+    places = {it.key: at for at, it in enumerate(definitions)}
     ordered: Dict[Key, Definition] = {}
     seen: Set[Key] = set()
 
     def place(it: Definition) -> None:
-        if it.key in keys - seen:
-            seen.add(it.key)
-            for used in statement.used_by(it):
-                if isinstance(used, Definition):
+        seen.add(it.key)
+        for used in statement.used_by(it):
+            if isinstance(used, Definition) and used.key in places.keys() - seen:
+                if used.file != it.file or places[used.key] < places[it.key]:
                     place(used)
-            ordered[it.key] = it
+        ordered[it.key] = it
 
     for it in definitions:
-        place(it)
+        if it.key not in seen:
+            place(it)
     return [*ordered.values()]
 
 
@@ -555,10 +567,10 @@ def page_of(statement: Statement) -> str:
     rules = OTHER_RULES if MINIMAL in statement.left_out else ""
     counts = {"count": len(ours), "lines": count_of(statement, ours)}
     lines = [WORDS, READING.format(**counts, read=code(sorted(read)), handed=wrapped(code(handed)), rules=rules)]
-    lines += ["## Types of the code\n", *types_of(statement)]
+    lines += [TYPES, *types_of(statement)]
     for number, (section, part) in enumerate(zip(SECTIONS, parts_of(statement)), 1):
         lines += [f"## {number}. {section.title}\n", wrapped(section.words) + "\n", *texts_of(statement, part)]
-    lines += ["## The contracts\n", *(f"```rust\n{contract_of(name)}```\n" for name in FUNCTIONS), *kit_list(statement)]
+    lines += [CONTRACTS, *(f"```rust\n{contract_of(name)}```\n" for name in FUNCTIONS), *kit_list(statement)]
     return "\n".join(lines) + "\n"
 
 
