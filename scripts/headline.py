@@ -273,7 +273,8 @@ class Statement:
         """Returns the lines of a definition that are read, with what stands above it."""
         if definition.key == GRAMMAR or is_grammar(definition):
             return text_without(definition, self.left_out)
-        if MINIMAL not in self.left_out:
+        meanings = self.library.meanings(self.module_of(definition), MINIMAL) if MINIMAL in self.left_out else []
+        if not any(isinstance(it, Definition) and it.key == RULES for it in meanings):
             return definition.lines
         return text_without_constructor(definition, MINIMAL) if definition.key == RULES else text_without_clauses(definition, MINIMAL)
 
