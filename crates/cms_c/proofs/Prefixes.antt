@@ -33,9 +33,7 @@ next_refused input left limit cs reason at (Some rest) failures taken (refused, 
       taken = refused.taken;
       place = refused.place;
       unfailed = refused.unfailed;
-      truncated = refused.truncated;
-      hopeless = refused.hopeless;
-      why = refused.why;
+      refusal = refused.refusal;
     },
     record { octets = first.octets; taken = first.taken; place = first.place; first = first.first },
   );

@@ -434,8 +434,8 @@ stops_writing {left = left} {middle = middle} {end = end} {out = out} {mid = mid
 -- a message that is refused took no more octets than the limit
 refused_short : {r : Reading} {limit : ℕ} {reason : Reason} {at : ℕ} (h : IsRefused r limit tails.Leave reason at) → length h.octets ≤ limit
 refused_short {limit = limit} {reason = reason} {at = at} h = elim (is_truncated reason) [
-  | inl e ↦ omega (arith, h.place, (h.truncated e).2)
-  | inr n ↦ go (h.hopeless n)
+  | inl e ↦ omega (arith, (h.refusal.truncated e).2)
+  | inr n ↦ go (h.refusal.hopeless n)
 ]
   where
     past : (reason : Reason) → IsPast limit tails.Leave reason h.octets → length h.octets ≤ limit
@@ -443,8 +443,8 @@ refused_short {limit = limit} {reason = reason} {at = at} h = elim (is_truncated
     past reasons.Trailing k = absurd (let z = k.0 in cc)
     past reason k = absurd k
 
-    go : (Hopeless limit h.octets × (at ≤ limit)) ⊎ IsPast limit tails.Leave reason h.octets → length h.octets ≤ limit
-    go (inl k) = omega (arith, h.place, k.1)
+    go : (Hopeless limit h.octets × (length h.octets ≤ limit)) ⊎ IsPast limit tails.Leave reason h.octets → length h.octets ≤ limit
+    go (inl k) = k.1
     go (inr k) = past reason k
 
 -- what a message that fails took

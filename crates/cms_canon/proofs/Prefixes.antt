@@ -13,11 +13,11 @@ use Rattle.cms_canon.specs.declared.convert.Done.{Done}
 use Rattle.cms_canon.specs.declared.message.Tail.{Tail}
 use Rattle.cms_canon.specs.declared.message.Tail.TheVariants as tails
 use Rattle.cms_canon.specs.Conversions.{IsCanonicalised}
-use Rattle.cms_canon.specs.Denotes.{EndThemselves, IsWrittenFor}
+use Rattle.cms_canon.specs.Denotes.{EndThemselves, IsReadAlone, IsWrittenFor}
 use Rattle.cms_canon.specs.Messages.{IsMessage, IsPast, IsRefused, Hopeless}
 use Rattle.cms_canon.specs.Prefixes.{IsReadAgain}
 use Rattle.cms_canon.specs.Streams.{Reading, Writing, WritesAll}
-use Rattle.cms_canon.proofs.Headline.{IsMessageKind, written_short, written_again}
+use Rattle.cms_canon.proofs.Headline.{IsMessageKind, written_short, written_again, der_unchanged}
 use Rattle.cms_canon.proofs.MessageLaws.{message_kind}
 
 pub end_themselves : {V : Type 0} {P : ℕ → Type 0} {R : Spelling V} → IsField P R → EndThemselves R
@@ -105,7 +105,7 @@ module _ {P : ℕ → Type 0} (fields : IsField P (whole_message ber)) (by_der :
       go : (ys : List ℕ) → r.left_after ≡ Some ys → o ++ rest ≡ f.octets ++ ys
           → (reason ≡ reasons.Truncated) ⊎ (reason ≢ reasons.Truncated) → (reason ≡ reasons.Trailing) × (tail ≡ tails.Refuse) × (rest ≢ [])
       go ys a parts (inl t) =
-          let u = f.truncated t in
+          let u = f.refusal.truncated t in
           let none : ys ≡ [] = subst IsAtEnd a u.1 in
           let x = u.0.0 in
           let all : o ++ (rest ++ x) ≡ (f.octets ++ x) ++ [] = sym (append_assoc o rest x)
@@ -116,12 +116,18 @@ module _ {P : ℕ → Type 0} (fields : IsField P (whole_message ber)) (by_der :
           tail_nil : (p q : List ℕ) → p ++ q ≡ [] → q ≡ []
           tail_nil [] q e = e
           tail_nil (x ∷ p) q e = absurd cc
-      go ys a parts (inr n) = either (f.hopeless n)
+      go ys a parts (inr n) = either (f.refusal.hopeless n)
         where
-          either : (Hopeless limit f.octets × (at ≤ limit)) ⊎ IsPast limit tail reason f.octets
+          either : (Hopeless limit f.octets × (length f.octets ≤ limit)) ⊎ IsPast limit tail reason f.octets
               → (reason ≡ reasons.Trailing) × (tail ≡ tails.Refuse) × (rest ≢ [])
           either (inl p) = absurd (p.0 ys o rest h.written (sym parts) message)
           either (inr p) = past tail reason f.octets ys parts p
 
   pub read_again : IsReadAgain limit o rest
   read_again = record { done = done; refused = refused }
+
+  pub read_alone : IsReadAlone whole_message same_message limit o
+  read_alone = record {
+    again = der_unchanged kind limit o h.written h.der_spells short;
+    alone = λ c x y v e s. sym (end_themselves fields o c x y h.written v spelled s e).0;
+  }

@@ -1,5 +1,5 @@
 -- What the octets of a message that is refused say.
-use Rattle.std.proofs.Common.{◌≡◌, inl, inr, ℕ, ◌+◌, ◌<◌, ◌≤◌, ◌⊎◌, ◌∷◌, [], List, ◌++◌, length, length-append, Option, None, sym, ap, subst, ◌∙◌, arith}
+use Rattle.std.proofs.Common.{◌≡◌, inl, inr, ℕ, ◌+◌, ◌<◌, ◌≤◌, ◌⊎◌, ◌∷◌, [], List, ◌++◌, length, length-append, Option, None, refl, sym, ap, subst, ◌∙◌, arith}
 use Rattle.std.proofs.lemmas.List.{append-nil}
 use Rattle.cms_tlv.specs.declared.fault.Fault.TheVariants as faults
 use Rattle.cms_tlv.specs.declared.fault.Reason.{Reason}
@@ -7,8 +7,11 @@ use Rattle.cms_tlv.specs.declared.fault.Reason.TheVariants.{TooLarge, LengthRese
 use Rattle.cms_tlv.specs.State.{State, Advance, as_list}
 use Rattle.cms_tlv.specs.Refines.{NeedsNoOctets}
 use Rattle.cms_tlv.specs.Headers.{IsHeader, IsLength}
-use Rattle.cms_tlv.specs.RefusalReasons.{either_says, HeaderTaken, TiedLast, SaysWhy}
-use Rattle.cms_scalars.specs.Malformed.{IsMalformed}
+use Rattle.cms_tlv.specs.RefusalReasons.{either_says, IsFree, HeaderTaken, TiedLast, SaysWhy}
+use Rattle.cms_tlv.specs.Frames.{IsElement}
+use Rattle.cms_tlv.proofs.FrameLaws.{identifier_some}
+use Rattle.cms_tlv.proofs.SpellingLaws.{element_starts}
+use Rattle.cms_scalars.specs.Malformed.{EndInElement, EndInContentType, IsMalformed}
 use Rattle.cms_scalars.proofs.MalformedLaws.{AreMalformed, both, in_turn, integer, after}
 use Rattle.cms_message.specs.ContentInfo.{content_info_fields}
 use Rattle.cms_message.proofs.MalformedLaws.{fields_in}
@@ -101,3 +104,35 @@ module _ (left : Option (List ℕ)) (failures limit : ℕ) (s : State) (more : L
   pub octets_say : (reason : Reason) (at : ℕ) → SaysWhy IsMalformed (fresh left failures limit) s (faults.Refused reason at) → SayWhy limit reason more
   octets_say reason at (inl h) = tied_says reason at h
   octets_say reason at (inr m) = malformed_says reason (subst (IsMalformed reason) (sym (all_done m.none_kept ∙ m.taken)) m.says)
+
+-- What is said of octets is said of some.
+
+longer : (x y : List ℕ) → x ++ y ≡ [] → 1 ≤ length y → ⊥
+longer x y e l = omega (arith, ap length e, length-append x y, l)
+
+no_header : {P : ℕ → List ℕ → Type 0} → EndInHeader [] P → ⊥
+no_header h = longer h.before (h.identifier ++ h.sizes) (sym h.are)
+    (omega (arith, length-append h.identifier h.sizes, identifier_some h.is_identifier))
+
+element_some : {b c : List ℕ} {id : ℕ} → IsElement b id c → 1 ≤ length b
+element_some e = omega (arith, ap length (element_starts e).1)
+
+no_element : {id : ℕ} {P : List ℕ → Type 0} → EndInElement [] id P → ⊥
+no_element h = longer h.before h.element (sym h.are) (element_some h.is_element)
+
+no_content_type : {P : List ℕ → Type 0} → EndInContentType [] P → ⊥
+no_content_type h = longer h.before (h.header ++ h.element) (sym h.are)
+    (omega (arith, length-append h.header h.element, element_some h.is_element))
+
+pub none_say : (limit : ℕ) (reason : Reason) → SayWhy limit reason [] → IsFree reason ⊎ (reason ≡ TooLarge)
+none_say limit TooLarge h = inr refl
+none_say limit LengthReserved h = absurd (no_header h)
+none_say limit LengthTooLong h = absurd (no_header h)
+none_say limit IndefinitePrimitive h = absurd (no_header h)
+none_say limit IntegerMalformed h = absurd (no_element h)
+none_say limit OidMalformed h = absurd (no_element h)
+none_say limit BooleanMalformed h = absurd (no_element h)
+none_say limit BitsMalformed h = absurd (no_element h)
+none_say limit NotSignedData h = absurd (no_content_type h)
+none_say limit Trailing h = absurd h
+none_say limit reason h = inl (λ limit at. tt)

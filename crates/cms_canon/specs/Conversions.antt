@@ -14,12 +14,9 @@ use Rattle.cms_canon.specs.Streams.{Reading, Writing, WritesAll, WritesPart, Wri
 use Rattle.cms_canon.specs.Whole.{Whole}
 
 --- `IsCanonicalised r w limit tail d`: one message was read, and what is written for its octets was
----   written
---- | `d` counts the octets of both, and `KeepsReceived` holds of them
+---   written; `d` counts the octets of both, and `KeepsReceived` holds of them
 pub record IsCanonicalised (r : Reading) (w : Writing) (limit : ℕ) (tail : Tail)
     (d : Done) : Type 0 where
-  --- `message`: its grammar: 30 with the fields of one of the three as its contents; [the same]
-  --- | the first identifier octet inside says the kind: 06, 02, or else 30
   pub message : Whole
   pub is_read : IsRead r limit tail message
   pub octets : List ℕ

@@ -18,9 +18,9 @@ use Rattle.cms_tsp.specs.Responses.{TimeStampResp, token, time_stamp_resp_fields
 abbrev pub MessageValue : Type 0
 MessageValue = ContentInfo ⊎ (TimeStampReq ⊎ TimeStampResp)
 
--- SEQUENCE (30): the fields of a ContentInfo, of a TimeStampReq or of a TimeStampResp.
--- The first identifier inside says the kind: 06, an OBJECT IDENTIFIER; 02, an INTEGER; else 30, a
--- SEQUENCE.
+--- `message`: 30 with the fields of a ContentInfo, of a TimeStampReq or of a TimeStampResp; the
+---   first identifier octet inside says which: 06, 02 or else 30
+---   [RFC 5652, 3; RFC 3161, 2.4.1, 2.4.2]
 abbrev pub message : Grammar MessageValue
 message = tagged 0x30
     (contents_choice signed_data_type signed_data_content

@@ -1,5 +1,5 @@
 -- The octets of a message that are written as they were received.
-use Rattle.std.specs.Prelude.{◌≡◌, ◌↔◌, ◌<◌, ℕ, List, Option, option_map, option_to_list, count_by}
+use Rattle.std.specs.Prelude.{◌≡◌, ◌<◌, ℕ, List, Option, option_map, option_to_list, count_by}
 use Rattle.std.specs.Option.{option_and_then, option_or}
 use Rattle.std.specs.List.{flat_map}
 use Rattle.cms_tlv.specs.Spelling.{ber, der}
@@ -20,9 +20,8 @@ opaque_in = in_either in_content_info (in_either in_time_stamp_req in_time_stamp
 abbrev pub content_in : MessageValue → Option (Option (List ℕ))
 content_in v = option_map (λ s. e_content (encap_content_info s)) (signed_data_in v)
 
---- `IsImprintIn v i`: `i` is the imprint that the message is about, or none: [RFC 3161, 2.4.1,
----   2.4.2]
---- | that of a request, or that of the TSTInfo which its content is
+--- `IsImprintIn v i`: `i` is the imprint that the message is about, or none: that of a request, or
+---   that of the TSTInfo which its content is [RFC 3161, 2.4.1, 2.4.2]
 abbrev pub IsImprintIn : MessageValue → Option MessageImprint → Type 0
 IsImprintIn v i =
     (read : Option TstInfo) × IsTstInfoOf (option_and_then (λ c. c) (content_in v)) read
@@ -33,20 +32,18 @@ IsImprintIn v i =
 abbrev pub covers_in : MessageValue → Option (List ℕ) → List Covered
 covers_in v detached = flat_map (λ s. covers s detached) (option_to_list (signed_data_in v))
 
---- `HaveTheSame v w`: two messages have the same content and the same imprint; [ours]
---- | whatever detached content is given, each pair of a cover and a signature is equally often in
----   both;
---- | each list of octets is equally often in `opaque_in` of both
+--- `HaveTheSame v w`: two messages have the same content; each list of octets is equally often in
+---   `opaque_in` of both; and whatever detached content is given, each pair of a cover and a
+---   signature is equally often in both [ours]
 pub record HaveTheSame (v w : MessageValue) : Type 0 where
   pub counted : (z : List ℕ) → times z (opaque_in v) ≡ times z (opaque_in w)
   pub content : content_in v ≡ content_in w
-  pub imprint : (i : Option MessageImprint) → IsImprintIn v i ↔ IsImprintIn w i
   pub covered : (detached : Option (List ℕ)) (x : Covered)
       → count_by (same_covered x) (covers_in v detached)
       ≡ count_by (same_covered x) (covers_in w detached)
 
---- `KeepsReceived b o`: `b` spells a message, and `o` is DER of one; these `HaveTheSame`; [ours]
---- | and what is in `opaque_in` is part of `b` and of `o`
+--- `KeepsReceived b o`: `b` spells a message, and `o` is DER of one; these `HaveTheSame`, and what
+---   is in `opaque_in` is part of `b` and of `o` [ours]
 pub record KeepsReceived (b o : List ℕ) : Type 0 where
   pub read : MessageValue
   pub spells : whole_message ber b read

@@ -1,5 +1,5 @@
 -- What was read and written where the octets are known.
-use Rattle.std.proofs.Common.{◌≡◌, ℕ, List, [], Some, true, Result, Ok, IfOk, refl, sym, ap, subst, ◌∙◌, ◌++◌}
+use Rattle.std.proofs.Common.{◌≡◌, inl, inr, arith, ℕ, List, [], Some, true, Result, Ok, IfOk, refl, sym, ap, subst, ◌∙◌, ◌++◌}
 use Rattle.cms_tlv.specs.declared.fault.Fault.{Fault}
 use Rattle.std.proofs.lemmas.List.{append-nil}
 use Rattle.cms_tlv.specs.Spelling.{ber, der}
@@ -10,8 +10,9 @@ use Rattle.cms_canon.specs.Denotes.{IsWrittenFor}
 use Rattle.cms_canon.specs.Kinds.{MessageValue, whole_message, same_message}
 use Rattle.cms_canon.specs.Received.{KeepsReceived}
 use Rattle.cms_fields.specs.Writing.{Writes}
-use Rattle.cms_canon.specs.Messages.{IsRead}
-use Rattle.cms_canon.specs.Streams.{Reading, DidNotFail, TakesAtMost, between}
+use Rattle.cms_tlv.specs.declared.fault.Fault.TheVariants as faults
+use Rattle.cms_canon.specs.Messages.{IsRead, MessageFaults, FaultOf}
+use Rattle.cms_canon.specs.Streams.{between}
 use Rattle.cms_canon.specs.Whole.{Whole}
 
 -- the input was one message, and the output is what is written for it
@@ -51,9 +52,18 @@ read_of input given rest limit m r e is h =
     subst (λ o. IsRead (between (Some o) 0 (Some rest) 0) limit Refuse m) e
     (subst (λ x. IfOk x (IsRead (between (Some given) 0 (Some rest) 0) limit Refuse)) is h)
 
--- a message that was read has at most as many octets as the limit, and the reader did not fail
-pub few_taken : (r : Reading) (limit : ℕ) (m : Whole) → IsRead r limit Refuse m → DidNotFail r × TakesAtMost r limit
-few_taken r limit m h = (h.unfailed, (m.octets, h.taken, h.message.1))
+-- what a fault of reading them says of octets in memory
+pub fault_of : (limit : ℕ) (b given rest : List ℕ) (f : Fault) → given ≡ b
+    → MessageFaults (between (Some given) 0 (Some rest) 0) limit Refuse f → FaultOf limit b f
+fault_of limit b given rest (faults.Refused reason at) e h = (h.octets, rest, sym e ∙ h.taken, h.place, record {
+  truncated = h.refusal.truncated;
+  hopeless = h.refusal.hopeless;
+  why = h.refusal.why;
+})
+fault_of limit b given rest faults.Read e (inl n, t) = absurd (omega arith)
+fault_of limit b given rest faults.Read e (inr n, t) = absurd (omega arith)
+fault_of limit b given rest (faults.Write written) e h = h
+fault_of limit b given rest faults.OutOfMemory e h = tt
 
 -- what is opaque is kept
 pub kept_of :

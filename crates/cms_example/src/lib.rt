@@ -11,8 +11,8 @@
 //!         × Denotes whole_message same_message (2 ^ 24) b.now v)) }
 //!     ensures kept { IfSome result (λ p. KeepsReceived a.now p.0.items
 //!         × KeepsReceived b.now p.1.items) }
-//!     ensures again { IfSome result (λ p. (rest : List ℕ) → IsReadAgain (2 ^ 24) p.0.items rest
-//!         × IsReadAgain (2 ^ 24) p.1.items rest) }
+//!     ensures again { IfSome result (λ p. IsReadAlone whole_message same_message (2 ^ 24) p.0.items
+//!         × IsReadAlone whole_message same_message (2 ^ 24) p.1.items) }
 //! ```
 //!
 //! It follows from the public contracts of the crates below, as those of the other calls here. That of
@@ -37,13 +37,10 @@
 mod sketches;
 
 ghost use Rattle.std.specs.Prelude.{◌≡◌, ◌^◌, ◌↔◌, ℕ, List, Some, IfSome, IfOk, IfErr, IsTrue};
-ghost use Rattle.cms_canon.specs.Denotes.{Denotes, IsWrittenFor};
+ghost use Rattle.cms_canon.specs.Denotes.{Denotes, IsReadAlone, IsWrittenFor};
 ghost use Rattle.cms_canon.specs.Kinds.{MessageValue, whole_message, same_message};
-ghost use Rattle.cms_canon.specs.Messages.{MessageFaults};
-ghost use Rattle.cms_canon.specs.Prefixes.{IsReadAgain};
+ghost use Rattle.cms_canon.specs.Messages.{FaultOf};
 ghost use Rattle.cms_canon.specs.Received.{KeepsReceived};
-ghost use Rattle.cms_canon.specs.Streams.{between};
-ghost use Rattle.cms_canon.specs.declared.message.Tail.TheVariants.{Refuse};
 
 use cms_canon::{
     Tail, canonicalise, equal_octets_are_the_same_message, message_octets_are_kept, put_message,
@@ -57,9 +54,10 @@ use std::alloc::Global;
 /// not, or if memory runs out.
 ///
 /// What is written for each is DER of a message that is the same. The octets are equal if and only if
-/// there is a message that both inputs denote, with sets taken as multisets. The content, the imprint,
-/// what signatures cover and everything else that is opaque are kept. What is written is read again,
-/// whatever follows it, and is written again unchanged.
+/// there is a message that both inputs denote, with sets taken as multisets. The content, what
+/// signatures cover and everything else that is opaque are kept. What is written is accepted, and is
+/// written again unchanged; and whatever follows it, no other octets with which the whole begins are a
+/// message.
 pub fn both(alloc: Global, a: &[u8], b: &[u8]) -> Option<(Vec<u8>, Vec<u8>)>
     ensures der_of_a { IfSome result (λ p. IsWrittenFor whole_message same_message
         (2 ^ 24) a.now p.0.items) }
@@ -70,8 +68,8 @@ pub fn both(alloc: Global, a: &[u8], b: &[u8]) -> Option<(Vec<u8>, Vec<u8>)>
         × Denotes whole_message same_message (2 ^ 24) b.now v)) }
     ensures kept { IfSome result (λ p. KeepsReceived a.now p.0.items
         × KeepsReceived b.now p.1.items) }
-    ensures again { IfSome result (λ p. (rest : List ℕ) → IsReadAgain (2 ^ 24) p.0.items rest
-        × IsReadAgain (2 ^ 24) p.1.items rest) }
+    ensures again { IfSome result (λ p. IsReadAlone whole_message same_message (2 ^ 24) p.0.items
+        × IsReadAlone whole_message same_message (2 ^ 24) p.1.items) }
 {
     equal_octets_are_the_same_message();
     message_octets_are_kept();
@@ -102,12 +100,10 @@ pub fn written(alloc: Global, octets: &[u8]) -> Option<Vec<u8>>
 /// The octets that a refusal counts are hopeless: whatever follows them, the whole does not begin with
 /// such a message. Or it is E1, and the input is a proper prefix of a frame; or E2, and the octets are a
 /// message whose DER is too long; or E18, and they are a message and one octet more.
-#[tactic(auto, using(crate::proofs::Memory::few_taken))]
 pub fn written_or_refused(alloc: Global, octets: &[u8]) -> Result<Vec<u8>, Fault>
     ensures der { IfOk result (λ o. IsWrittenFor whole_message same_message
         (2 ^ 24) octets.now o.items) }
-    ensures refused { IfErr result (λ e. (rest : List ℕ)
-        × MessageFaults (between (Some octets.now) 0 (Some rest) 0) (2 ^ 24) Refuse e) }
+    ensures refused { IfErr result (FaultOf (2 ^ 24) octets.now) }
 {
     let (_, message) = read_message(alloc, Slice::new(octets), 1 << 24, Tail::Refuse);
     let message = message?;

@@ -1,6 +1,6 @@
 -- The countersignatures at the last depth, of which there are none.
 use Rattle.cms_tlv.specs.RefusalReasons.{Explained, says_nothing}
-use Rattle.cms_tlv.proofs.Why.{gives_explained, refuses_explained, bound_explained, branch_explained, fewer, peek_explained, close_explained, entered_explained}
+use Rattle.cms_tlv.proofs.Why.{wider, refuses_explained, made_explained, peeked_explained, branch_explained, fewer, close_explained, entered_explained}
 use Rattle.std.proofs.Common.{◌≡◌, bytes_eq, inl, inr, ℕ, ◌+◌, Bool, true, false, cond, List, [], ◌∷◌, length, Option, None, refl, sym, ap, subst, ◌∙◌}
 use Rattle.std.specs.List.{AllZip}
 use Rattle.cms_tlv.specs.declared.fault.Reason.TheVariants.{Truncated, CountersignTooDeep}
@@ -119,6 +119,6 @@ none_length = record {
 pub none_told : (bd : Bound) → Explained says_nothing 0 bd (no_countersignatures_of bd)
 unfolding no_countersignatures_of too_deep_of
 none_told bd =
-    bound_explained _ (peek_explained _ bd) (λ o. branch_explained _ (may_be (λ t. true) o)
-    (fewer _ (entered_explained _ 0x30 bd (λ inner. refuses_explained _ CountersignTooDeep (λ limit at. tt))))
-    (bound_explained _ (close_explained _ bd) (λ u. gives_explained _ [])))
+    peeked_explained _ (λ o. branch_explained _ (may_be (λ t. true) o)
+    (fewer _ (wider (λ reason b x. x.4) (entered_explained says_nothing 0x30 bd (λ inner. refuses_explained _ CountersignTooDeep (λ limit at. tt)))))
+    (made_explained _ (λ u. []) (close_explained _ bd)))

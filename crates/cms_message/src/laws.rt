@@ -65,9 +65,8 @@ pub fn signed_attributes_are_sets()
     Tagged::<CONTEXT_0, NonEmptySetOf<AttributeSpans>>::law();
 }
 
-/// Does nothing. Its contract says of an unsigned attribute of another type than countersignature: it is
-/// spelled as any attribute is, and is the same as another if these attributes are. So a message
-/// without countersignatures has the DER that it has if nothing is known of them.
+/// Does nothing. Its contract says of one unsigned attribute of another type than countersignature: it
+/// is spelled as any attribute is, and is the same as another if these attributes are.
 pub fn other_unsigned_attributes_are_attributes()
     ensures spelled { (m : Rules) (b t : List ℕ) (vs : List (List ℕ)) (levels : ℕ)
         → is_countersignature t ≡ false
