@@ -79,6 +79,14 @@ def telescope(nodes: Tree) -> Iterator[str]:
             yield from words_in(nodes[at + 1 : at + 2])
 
 
+def bound_by(part: Tree) -> int:
+    """Returns how many arguments a part of a type is, but for implicit ones: `(a b : T)` is two, and a type one."""
+    groups = [it for it in part if isinstance(it, Group) and ":" in it.inside]
+    if part and len(groups) < len(part):
+        return 1
+    return sum(it.inside.index(":") for it in groups if it.bracket == "(")
+
+
 @dataclass
 class Clause:
     """A clause of a definition: the patterns on its left, and what is on its right."""
@@ -130,6 +138,16 @@ class Definition:
     def signature(self) -> Tree:
         first, *_ = [*self.starts(), None]
         return tree("\n".join([self.around, *self.lines[self.above :][:first]]))
+
+    def arguments(self) -> int:
+        """Returns how many arguments its type says that it takes, but for implicit ones: a spelling takes two, octets and a value."""
+        head = tree("\n".join(self.lines[self.above :][: ([*self.starts(), None])[0]]))
+        head = head[: head.index("where")] if "where" in head else head
+        at = head.index(":")
+        ends = [at, *(place for place, it in enumerate(head) if it == "→" and place > at)]
+        parts = [head[a + 1 : b] for a, b in zip(ends, ends[1:])]
+        of_result = 2 if head[ends[-1] + 1 :][:1] == ["Spelling"] else 0
+        return of_result + sum(map(bound_by, [[it for it in head[:at] if isinstance(it, Group)], *parts]))
 
     def clauses(self) -> List[Clause]:
         starts = self.starts()

@@ -1,6 +1,6 @@
 #!/usr/bin/env python3
 """Writes docs/HEADLINE.md: what the library promises, as the contracts of two functions of crates/cms_example, and each definition that
-these contracts reach.
+these contracts reach, in sections from below. `SECTIONS` says which file is in which; what is in none is an error.
 
     python3 scripts/headline.py [--check | --counts]
 
@@ -8,26 +8,114 @@ With --check nothing is written: if the file is not up to date, that is printed,
 docs/TRUST.md states are printed.
 
 Only what a contract reads is followed. Of a grammar these are the rows that are projected somewhere in what is read, as `spelled` is by
-`message.spelled`. A parameter of a grammar that occurs in no row that is read is not read, and nor is an argument for it.
+`message.spelled`. A parameter of a grammar that occurs in no row that is read is not read, and nor is an argument for it. Nor are the
+clauses of a definition for the rules `minimal`, as long as nothing else names these or is of all rules.
 """
 
 import re
 import sys
 from collections import Counter
+from itertools import groupby
 from pathlib import Path
 from textwrap import wrap
-from typing import Counter as CounterOf, Dict, Iterable, Iterator, List, Set, Tuple, Union
+from typing import Counter as CounterOf, Dict, Iterable, Iterator, List, NamedTuple, Set, Tuple, Union
 
 from antt import BUILT_IN, NUMBER, RESERVED, TOP, Definition, Group, Key, Library, Module, Tree
 from antt import beginnings, note_imports, telescope, tree, words_in
+from definitions import name_of
 
 EXAMPLE = TOP / "crates" / "cms_example" / "src" / "lib.rt"
 PAGE = TOP / "docs" / "HEADLINE.md"
 FUNCTIONS = ("both", "written_or_refused")
 GRAMMAR = ("Rattle.cms_fields.specs.Grammar", "Grammar")
 EXACT = ("Rattle.cms_canon.specs.Exact", "ExactFaults")
+RULES = ("Rattle.cms_tlv.specs.Spelling", "Rules")
+MINIMAL = "minimal"  # the constructor of `Rules` for octets that are read inside signed attributes
 
 Meaning = Union[Definition, str]
+
+
+class Section(NamedTuple):
+    """A section of the page: its title, what it is about, and its files. Each has the names of those of its definitions that are in the section,
+    or none if all are that no other section names."""
+
+    title: str
+    words: str
+    files: Dict[str, str]
+
+
+SECTIONS = (
+    Section(
+        "Octets, identifiers and lengths",
+        "An octet is a number below 256. An encoding begins with identifier octets and length octets (X.690, 8.1.2 and 8.1.3); by DER the length "
+        "octets are the shortest (10.1).",
+        {"cms_tlv/Headers.antt": ""},
+    ),
+    Section(
+        "Elements and frames",
+        "An element is an identifier octet, length octets and contents, and a frame is an encoding of which only the framing is considered (X.690, "
+        "8.1). A spelling says which octets have which value, by BER or by DER.",
+        {
+            **{"cms_tlv/Frames.antt": "", "cms_tlv/Order.antt": "", "cms_tlv/Spelling.antt": "", "cms_scalars/Image.antt": ""},
+            "cms_fields/Received.antt": "as_received",
+        },
+    ),
+    Section(
+        "Opaque elements",
+        "An opaque element is kept octet for octet. Only its framing is judged, which is in DER (X.690, 8.1, 10.1 and 10.2).",
+        {"cms_tlv/Opaque.antt": "", "cms_fields/Received.antt": "IsOpaqueAmong"},
+    ),
+    Section(
+        "Scalars",
+        "INTEGER, OBJECT IDENTIFIER, BOOLEAN and BIT STRING follow X.690, 8.2, 8.3, 8.6 and 8.19, and by DER 11.1, 11.2 and 11.5.",
+        {f"cms_scalars/{it}.antt": "" for it in ("Scalars", "ObjectIdentifiers", "Booleans", "Bits")},
+    ),
+    Section(
+        "Strings",
+        "An OCTET STRING is primitive, or constructed from others (X.690, 8.7); by DER it is primitive (10.2). Its value is its octets, joined.",
+        {"cms_scalars/Octets.antt": ""},
+    ),
+    Section(
+        "How records are put together",
+        "A grammar describes a field, which is one element, or contents, which are the fields between a header and its end: how they are "
+        "spelled, and which values are the same. What is put together follows X.690, 8.9 to 8.14.",
+        {
+            **{"cms_setof/Same.antt": "", "cms_fields/Choices.antt": "", "cms_fields/Selected.antt": "", "cms_fields/Grammar.antt": ""},
+            **{"cms_setof/Grammar.antt": "", "cms_scalars/Grammar.antt": ""},
+        },
+    ),
+    Section(
+        "The records of RFC 5652 and RFC 3161",
+        "Each type of these standards has the type of its values, which are nested pairs; a definition for each field, which takes the first "
+        "part of a pair (`.0`) or the second (`.1`); and a grammar.",
+        {
+            **{f"cms_message/{it}.antt": "" for it in ("Algorithms", "Choices", "Attributes", "Countersignatures")},
+            **{f"cms_message/{it}.antt": "" for it in ("SignerInfo", "SignedData", "ContentInfo")},
+            **{"cms_tsp/Requests.antt": "", "cms_tsp/Responses.antt": "", "cms_canon/Kinds.antt": ""},
+        },
+    ),
+    Section(
+        "Sameness",
+        "Two messages are the same if they differ at most in the order of the members of sets. No standard says so, but by DER the members of a set "
+        "ascend (X.690, 11.6).",
+        {"cms_fields/Writing.antt": "", "cms_canon/Kinds.antt": "same_message", "cms_canon/Denotes.antt": ""},
+    ),
+    Section(
+        "What is kept",
+        "The content, what each signature and countersignature covers (RFC 5652, 5.4 and 11.4), and each list of opaque octets.",
+        {
+            "cms_fields/Received.antt": "",
+            "cms_canon/Kinds.antt": "signed_in signed_data_in",
+            **{"cms_message/Cover.antt": "", "cms_message/Received.antt": "", "cms_tsp/Received.antt": "", "cms_canon/Received.antt": ""},
+        },
+    ),
+    Section(
+        "What is refused",
+        "Octets are hopeless if no message begins with them. They say why they are refused: for what X.690, 8.1 to 8.19, does not allow, or "
+        "for a limit of the library.",
+        {f"{it}.antt": "" for it in ("cms_tlv/Clauses", "cms_scalars/Malformed", "cms_canon/Reasons", "cms_canon/Messages")},
+    ),
+)
 
 
 def is_constructor(word: str, meaning: Meaning) -> bool:
@@ -90,6 +178,27 @@ def text_without(definition: Definition, fields: Set[str]) -> List[str]:
     return lines
 
 
+def text_without_clauses(definition: Definition, constructor: str) -> List[str]:
+    """Returns the lines of a definition without the clauses that have a constructor among their patterns."""
+    starts = [definition.above + it for it in definition.starts()]
+    clauses = zip(starts, [*starts[1:], len(definition.lines)], definition.clauses())
+    left_out = {at for start, end, clause in clauses if constructor in words_in(clause.patterns) for at in range(start, end)}
+    return [line for at, line in enumerate(definition.lines) if at not in left_out]
+
+
+def text_without_constructor(definition: Definition, constructor: str) -> List[str]:
+    """Returns the lines of a data type with `..` in place of a constructor, and without the row of its comment that is about it."""
+    text = "\n".join(definition.lines)
+    text = re.sub(rf"^ *--- \| `{constructor}`.*\n(?: *---   .*\n)*", "", text, flags=re.M)
+    return re.sub(rf"^((?: *\w+)* *)\b{constructor}\b(?=.*:)", r"\1..", text, flags=re.M).split("\n")
+
+
+def ranges_over(nodes: Tree, kind: str) -> bool:
+    """Returns whether something in a term is of all values of a type, as with `(m : Rules)`."""
+    groups = [it for it in nodes if isinstance(it, Group)]
+    return any(it.inside[-2:] == [":", kind] or ranges_over(it.inside, kind) for it in groups)
+
+
 class Statement:
     """What a statement reads that names these definitions itself."""
 
@@ -97,18 +206,28 @@ class Statement:
         self.library, self.roots = library, roots
         grammar = library.find(*GRAMMAR)
         assert isinstance(grammar, Definition)
-        self.unread_fields = {*grammar.members()}
-        while projected := self.follow():
-            self.unread_fields -= projected
+        self.left_out = {*grammar.members(), MINIMAL}
+        while found := self.follow():
+            self.left_out -= found
 
     def follow(self) -> Set[str]:
-        """Finds what is reached, and returns the fields that are then projected and were taken for unread."""
+        """Finds what is reached, and returns what was left out and is then read: fields that are projected, and `minimal`."""
         self.unread: Dict[Key, Set[int]] = {}
         self.uses: Dict[Key, List[Meaning]] = {}
         self.steps = self.breadth_first()
         self.order = [it for step in self.steps for it in step]
         words = [word for it in self.order for word in words_in(self.read_of(it))]
-        return {field for word in words for field in word.split(".")[1:]} & self.unread_fields
+        projected = {field for word in words for field in word.split(".")[1:]}
+        named = {MINIMAL} & {*words, *(name for _, name in self.roots)}
+        of_all = {MINIMAL for it in self.order if any(ranges_over(nodes, RULES[1]) for nodes in self.bodies_of(it))}
+        return (projected | named | of_all) & self.left_out
+
+    def bodies_of(self, definition: Definition) -> List[Tree]:
+        """Returns what is on the right of the clauses of a definition, or the members of a type."""
+        if definition.is_type:
+            read = self.read_of(definition)
+            return [read[read.index("where") :]] if "where" in read else []
+        return [it.body for it in definition.clauses()]
 
     def breadth_first(self) -> List[List[Definition]]:
         """Returns the definitions that the roots are, then those that these use, and so on, each once."""
@@ -139,8 +258,12 @@ class Statement:
 
     def lines_of(self, definition: Definition) -> List[str]:
         """Returns the lines of a definition that are read, with what stands above it."""
-        is_cut = definition.key == GRAMMAR or is_grammar(definition)
-        return text_without(definition, self.unread_fields) if is_cut else definition.lines
+        if definition.key == GRAMMAR or is_grammar(definition):
+            return text_without(definition, self.left_out)
+        meanings = self.library.meanings(self.module_of(definition), MINIMAL) if MINIMAL in self.left_out else []
+        if not any(isinstance(it, Definition) and it.key == RULES for it in meanings):
+            return definition.lines
+        return text_without_constructor(definition, MINIMAL) if definition.key == RULES else text_without_clauses(definition, MINIMAL)
 
     def read_of(self, definition: Definition) -> Tree:
         """Returns what is read of a definition."""
@@ -199,8 +322,8 @@ WORDS = """# The headline
 
 What the library promises, in one statement: the contract of `both`, and that of `written_or_refused` for what is refused. Both are functions
 of [crates/cms_example](../crates/cms_example/src/lib.rt), which a user of the library could have written: they call it, and what they
-promise is proved from its public contracts alone. Below is each definition that the two contracts reach, in the order in which they are
-used. [DEFINITIONS.md](DEFINITIONS.md) says in words what each of them says.
+promise is proved from its public contracts alone. This page has each definition that the two contracts reach, from below: it comes after
+those that it uses, unless they use one another. [DEFINITIONS.md](DEFINITIONS.md) says in words what each of them says.
 
 `scripts/headline.py` writes this page from the sources. `tests/lint_repo.py` checks that it is up to date, and that each name in it means
 a definition of this page, something that the kit or the code declares, or a variable.
@@ -234,19 +357,32 @@ they end in contents that are no INTEGER, OBJECT IDENTIFIER, BOOLEAN or BIT STRI
 and it is not E18.
 
 The only other fault that it returns is that memory ran out. That there is enough memory is not promised.
-
-## As contracts
 """
 
 READING = """## How to read on
 
-The contracts reach {count} definitions of this repository, of {lines} lines. Part 1 has those that they name, part 2 those that part 1 names,
-and so on. They rest on the types of the code and the definitions of the kit that the end of this page names.
+The contracts reach {count} definitions of this repository, of {lines} lines. They are in sections, from below, and the contracts come after
+them. They rest on the types of the code, which come first, and on definitions of the kit, which are named last.
 
 A **grammar** says in its rows how a value is spelled, which values are the same, and more that serves reading. The contracts read only its
-rows {read}, and no definition here projects another one. So the other rows are left out, and `..` is in their place. What is only handed to
-them is not read either, and is not here:
+rows {read}, and no definition here projects another one. So the other rows are left out, and `..` is in their place.
+What is only handed to them is not read either, and is not here:
 {handed}.
+{rules}
+"""
+
+OTHER_RULES = """
+The contracts reach two members of `Rules`: BER (`ber`) and DER (`der`). The third, which nothing else here names, is left out with the
+clauses for it."""
+
+TYPES = """## Types of the code
+
+How a call ends, why octets are refused, and what may follow a message.
+"""
+
+CONTRACTS = """## The contracts
+
+What the two functions promise, in the words of the definitions above.
 """
 
 KIT = """## Definitions of the kit
@@ -286,14 +422,61 @@ def headline(library: Library) -> Statement:
     return Statement(library, [root for name in FUNCTIONS for root in roots_of(module, contract_of(name))])
 
 
-def texts_of(statement: Statement, step: List[Definition]) -> Iterator[str]:
-    """Yields the definitions of a step, those of each file below its name."""
-    files: Dict[Path, List[Definition]] = {}
-    for it in step:
-        files.setdefault(it.file, []).append(it)
-    for file, found in files.items():
+def section_of(definition: Definition) -> int:
+    """Returns the index of the section that a definition is in. Raises `SystemExit` if its file is in none."""
+    file = name_of(definition.file)
+    named = [at for at, it in enumerate(SECTIONS) if definition.name in it.files.get(file, "").split()]
+    found = named or [at for at, it in enumerate(SECTIONS) if it.files.get(file) == ""]
+    return found[0] if found else sys.exit(f"scripts/headline.py: no section has {definition.name} of {file}")
+
+
+def stale_names(definitions: List[Definition]) -> Iterator[str]:
+    """Yields each file, and each definition, that a section names and that none of these is, or is in."""
+    known = {it for one in definitions for it in (name_of(one.file), f"{name_of(one.file)}: {one.name}")}
+    named = [f"{file}: {name}" if name else file for it in SECTIONS for file, names in it.files.items() for name in names.split() or [""]]
+    yield from (f"scripts/headline.py: a section names {it}, which is not on the page" for it in named if it not in known)
+
+
+def from_below(statement: Statement, definitions: List[Definition]) -> List[Definition]:
+    """Returns definitions in an order in which each comes after those of them that it uses. Those of a file are given in the order of its lines;
+    one that uses a later one, as they use one another, comes before that."""
+    places = {it.key: at for at, it in enumerate(definitions)}
+    ordered: Dict[Key, Definition] = {}
+    seen: Set[Key] = set()
+
+    def place(it: Definition) -> None:
+        seen.add(it.key)
+        for used in statement.used_by(it):
+            if isinstance(used, Definition) and used.key in places.keys() - seen:
+                if used.file != it.file or places[used.key] < places[it.key]:
+                    place(used)
+        ordered[it.key] = it
+
+    for it in definitions:
+        if it.key not in seen:
+            place(it)
+    return [*ordered.values()]
+
+
+def parts_of(statement: Statement) -> List[List[Definition]]:
+    """Returns the definitions of each section, from below: otherwise they are in the order of the files and of their lines."""
+    parts: List[List[Definition]] = [[] for _ in SECTIONS]
+    for it in statement.order:
+        if it.is_ours:
+            parts[section_of(it)].append(it)
+    places = [{file: at for at, file in enumerate(it.files)} for it in SECTIONS]
+    lines = {it.key: [*statement.module_of(it).definitions].index(it.name) for part in parts for it in part}
+    sorted_parts = [sorted(part, key=lambda it: (at[name_of(it.file)], lines[it.key])) for at, part in zip(places, parts)]
+    return [from_below(statement, part) for part in sorted_parts]
+
+
+def texts_of(statement: Statement, definitions: List[Definition]) -> Iterator[str]:
+    """Yields definitions below the names of their files, and below the lines of the modules that they are in."""
+    for file, those in groupby(definitions, lambda it: it.file):
+        modules = [(around, [*found]) for around, found in groupby(those, lambda it: it.around)]
+        texts = ["\n\n".join("\n".join(statement.lines_of(it)) for it in found) for _, found in modules]
         yield f"`{file.relative_to(TOP)}`\n\n```text"
-        yield "\n\n".join("\n".join([*([it.around] if it.around else []), *statement.lines_of(it)]) for it in found)
+        yield "\n\n".join(f"{around}\n{text}" if around else text for (around, _), text in zip(modules, texts))
         yield "```\n"
 
 
@@ -367,16 +550,15 @@ def kit_list(statement: Statement) -> Iterator[str]:
 def page_of(statement: Statement) -> str:
     """Returns the text of the page."""
     ours = [it for it in statement.order if it.is_ours]
-    read = {*statement.library.find(*GRAMMAR).members()} - statement.unread_fields
+    read = {*statement.library.find(*GRAMMAR).members()} - statement.left_out
     handed = names_handed_on(statement, {it.key for it in statement.order})
-    lines = [WORDS, *(f"```rust\n{contract_of(name)}```\n" for name in FUNCTIONS)]
-    lines.append(READING.format(count=len(ours), lines=count_of(statement, ours), read=code(sorted(read)), handed=wrapped(code(handed))))
-    for number, step in enumerate(statement.steps, 1):
-        if texts := [*texts_of(statement, [it for it in step if it.is_ours])]:
-            lines += [f"## {number}. " + (f"What part {number - 1} names" if number > 1 else "What the contracts name") + "\n", *texts]
-    lines.append("## Types of the code\n")
-    lines += types_of(statement)
-    lines += kit_list(statement)
+    rules = OTHER_RULES if MINIMAL in statement.left_out else ""
+    counts = {"count": len(ours), "lines": count_of(statement, ours)}
+    lines = [WORDS, READING.format(**counts, read=code(sorted(read)), handed=wrapped(code(handed)), rules=rules)]
+    lines += [TYPES, *types_of(statement)]
+    for number, (section, part) in enumerate(zip(SECTIONS, parts_of(statement)), 1):
+        lines += [f"## {number}. {section.title}\n", wrapped(section.words) + "\n", *texts_of(statement, part)]
+    lines += [CONTRACTS, *(f"```rust\n{contract_of(name)}```\n" for name in FUNCTIONS), *kit_list(statement)]
     return "\n".join(lines) + "\n"
 
 
@@ -425,25 +607,22 @@ def unlisted(statement: Statement, definition: Definition, listed: Set[Tuple[str
 
 
 def counts_of(statement: Statement) -> Dict[str, int]:
-    """Returns how many lines and definitions are read: those of this repository, of the kit, and of jiff among these; and the lines more
-    for which refusal it is."""
+    """Returns how many lines and definitions are read: those of this repository and of the kit; and the lines more for which refusal it is."""
     ours = [it for it in statement.order if it.is_ours]
     kit = [it for it in statement.order if not it.is_ours]
     exact = Statement(statement.library, [*statement.roots, EXACT])
     more = count_of(exact, [it for it in exact.order if it.is_ours]) - count_of(statement, ours)
-    jiff = [it for it in kit if "jiff" in it.module]
-    numbers = [count_of(statement, ours), len(ours), count_of(statement, kit), len(kit), count_of(statement, jiff), more]
-    return dict(zip(["lines", "definitions", "lines of the kit", "definitions of the kit", "lines of jiff", "lines more"], numbers))
+    numbers = [count_of(statement, ours), len(ours), count_of(statement, kit), len(kit), more]
+    return dict(zip(["lines", "definitions", "lines of the kit", "definitions of the kit", "lines more"], numbers))
 
 
 # Each number of lines that a document states: the document, what is before and after it, and what it counts.
 STATED = [
     ("docs/TRUST.md", r"(rests on )[0-9,]+( lines of definitions:)", ("lines", "lines of the kit")),
     ("docs/TRUST.md", r"(rests on [0-9,]+ lines of definitions: )[0-9,]+( of)", ("lines",)),
-    ("docs/TRUST.md", r"(in the order in which they are used, and )\d+( of the kit)", ("lines of the kit",)),
-    ("docs/TRUST.md", r"(and )\d+( lines of jiff's)", ("lines of jiff",)),
+    ("docs/TRUST.md", r"(, and )\d+( of the kit)", ("lines of the kit",)),
     ("docs/TRUST.md", r"(Item 7 rests on )\d+( lines more)", ("lines more",)),
-    ("docs/DEFINITIONS.md", r"(in the order in which\s+they are used: )[0-9,]+( lines)", ("lines",)),
+    ("docs/DEFINITIONS.md", r"(from\s+below: )[0-9,]+( lines)", ("lines",)),
     ("docs/DEFINITIONS.md", r"(Both rest on )\d+( lines more)", ("lines more",)),
 ]
 
@@ -463,7 +642,7 @@ def files() -> Dict[str, str]:
     """Returns the text of the page and of what counts its lines, by their names. Raises `SystemExit` if a name in the page means nothing."""
     statement = headline(Library())
     page = page_of(statement)
-    if complaints := [*complaints_of(statement, page)]:
+    if complaints := [*complaints_of(statement, page), *stale_names([it for it in statement.order if it.is_ours])]:
         raise SystemExit("\n".join(complaints))
     return {str(PAGE.relative_to(TOP)): page, **stated(counts_of(statement))}
 

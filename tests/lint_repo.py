@@ -22,6 +22,7 @@ TOP = Path(__file__).resolve().parent.parent
 sys.path.insert(0, str(TOP / "scripts"))
 
 from calls import SYMBOLS, calls  # noqa: E402
+from definitions import half_said, misplaced  # noqa: E402
 
 DEFINITIONS = (TOP / "docs" / "DEFINITIONS.md").read_text()
 PROMISES = (TOP / "docs" / "PROMISES.md").read_text()
@@ -143,6 +144,12 @@ def complaints_of_namesakes():
     for name, where in sorted(files.items()):
         if len(where) > 1:
             yield f"{name}: {', '.join(where)}"
+
+
+def complaints_of_comments():
+    """Yields each comment of three dashes that is not of what is below it, and each record of which such comments name some fields only."""
+    for file in sorted(TOP.glob("crates/*/specs/**/*.antt")):
+        yield from (f"{file.relative_to(TOP)}: {it}" for it in (*misplaced(file), *half_said(file)))
 
 
 def lines_of_sketch(text):

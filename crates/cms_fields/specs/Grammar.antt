@@ -22,17 +22,14 @@ use Rattle.cms_fields.specs.Readers.{last_optional_of, constrained_of, opaque_am
 use Rattle.cms_fields.specs.Received.{as_received, IsOpaqueAmong}
 use Rattle.cms_fields.specs.Selected.{then_by_value, either_by, selected_of}
 
+-- A field, or contents: which octets spell which value, which values are the same, and more.
 pub record Grammar (V : Type 0) : Type 1 where
-  -- how a value is spelled, by each of the rules
   --- `spelled m`: how a value is spelled by the rules `m`
   pub spelled : Rules → Spelling V
-  -- the values that are spelled
   --- `is_value v`: the value `v` is one that may be spelled: its parts are
   pub is_value : V → Type 0
-  -- which values are the same
   --- `same`: which values are the same: part by part, octets as octets, and sets by `same_members`
   pub same : V → V → Bool
-  -- the octets with which a spelling may begin
   --- `first`: the octets with which a spelling may begin
   pub first : ℕ → Bool
   -- it is one element: each identifier octet may begin an element, and no part begins like a part
@@ -85,7 +82,7 @@ pub record IsLawful {V : Type 0} (g : Grammar V) : Type 0 where
 
 -- Fields.
 
--- what is only written, as contents of an element that is read in one piece
+--- `piece R P same`: what `R` spells, which is only written, as part of a field [`Received`]
 abbrev pub piece : {V : Type 0} → (Rules → Spelling V) → (V → Type 0) → (V → V → Bool) → Grammar V
 piece R P s = record {
   spelled = R;
@@ -99,8 +96,7 @@ piece R P s = record {
   malformed = says_nothing;
 }
 
---- `received P`, `piece R P same`: octets with `P`; what `R` spells: both are only written, as part
----   of a field [`Received`]
+--- `received P`: octets with `P`, which are only written, as part of a field [`Received`]
 abbrev pub received : (List ℕ → Type 0) → Grammar (List ℕ)
 received P = piece (λ m. as_received P) P bytes_eq
 
@@ -118,8 +114,7 @@ tagged id g = record {
   malformed = says_inside id g.malformed;
 }
 
---- `primitive id P test reason`: a primitive element whose contents have `P`, as the test decides;
----   else the refusal `reason` [`Primitive`]
+--- `primitive id P test reason`: a primitive element with contents `P`, else `reason` [`Primitive`]
 abbrev pub primitive : ℕ → (List ℕ → Type 0) → (List ℕ → Bool) → Reason → Grammar (List ℕ)
 primitive id P test malformed = record (tagged id (received P)) {
   is_field = is_primitive_octet id;
@@ -128,8 +123,7 @@ primitive id P test malformed = record (tagged id (received P)) {
   malformed = says_malformed id P malformed;
 }
 
---- `where_only g Q test reason`: what `g` describes, with `Q`, as the test decides; else the
----   refusal `reason` [`NonEmptySetOf`]
+--- `where_only g Q test reason`: `g` of a value with `Q`, else `reason` [`NonEmptySetOf`]
 abbrev pub where_only : {V : Type 0} → Grammar V → (V → Type 0) → (V → Bool) → Reason → Grammar V
 where_only g Q test reason = record g {
   spelled = λ m. g.spelled m where_value Q;
@@ -137,8 +131,8 @@ where_only g Q test reason = record g {
   reader = constrained_of test reason g.reader;
 }
 
---- `constrained id P test reason Q also refusal`: what `primitive` describes, with `Q`, as the test
----   `also` decides; else the refusal `refusal` [`Constrained`]
+--- `constrained id P test reason Q also refusal`: `primitive`, and also with `Q`, as the test
+---   `also` decides; else `refusal` [`Constrained`]
 abbrev pub constrained : ℕ → (List ℕ → Type 0) → (List ℕ → Bool) → Reason → (List ℕ → Type 0)
     → (List ℕ → Bool) → Reason → Grammar (List ℕ)
 constrained id P test reason Q also refusal =
@@ -147,8 +141,7 @@ constrained id P test reason Q also refusal =
           (says_malformed id (λ c. P c × Q c) refusal);
     }
 
---- `opaque_element`, `opaque_among allowed`: an opaque element; one whose identifier octet is
----   allowed [`Opaque`, `OpaqueAmong`]
+--- `opaque_element`: any opaque element [`Opaque`]
 abbrev pub opaque_element : Grammar (List ℕ)
 opaque_element = record (received IsOpaque) {
   is_field = true;
@@ -156,7 +149,7 @@ opaque_element = record (received IsOpaque) {
   read_by = λ m. true;
 }
 
--- the same, with an identifier octet that passes the test
+--- `opaque_among allowed`: one whose identifier octet is allowed [`OpaqueAmong`]
 abbrev pub opaque_among : (ℕ → Bool) → Grammar (List ℕ)
 opaque_among allowed = record (received (IsOpaqueAmong allowed)) {
   first = allowed;
@@ -165,8 +158,7 @@ opaque_among allowed = record (received (IsOpaqueAmong allowed)) {
   read_by = λ m. true;
 }
 
---- `strict g`: the field `g` by DER, whatever the rules are; the value has its octets too
----   [`AlreadyDer`]
+--- `strict g`: the field `g` in DER, whatever the rules are, and its octets [`AlreadyDer`]
 abbrev pub strict : {V : Type 0} → Grammar V → Grammar (List ℕ × V)
 strict g = record {
   spelled = λ m. with_octets (g.spelled der);
@@ -250,8 +242,7 @@ last_optional g = record {
   malformed = g.malformed;
 }
 
---- `contents_choice g r h`: the field `g` and the fields `r`, or else the fields `h`
----   [`ContentsChoice`]
+--- `contents_choice g r h`: the fields `g` and `r`, or else the fields `h` [`ContentsChoice`]
 abbrev pub contents_choice : {V U W : Type 0} → Grammar V → Grammar U → Grammar W
     → Grammar (V × U ⊎ W)
 contents_choice g r h = record {
@@ -271,8 +262,7 @@ abbrev pub is_of : {V W : Type 0} → Bool → V ⊎ W → Type 0
 is_of t (inl v) = t ≡ true
 is_of t (inr w) = t ≡ false
 
---- `selected id P test reason chosen g h`: a primitive field, then the fields `g` if its contents
----   octets pass the test `chosen`, else `h` [`Selected`]
+--- `selected id P test reason chosen g h`: `primitive`, then `g` if `chosen`, else `h` [`Selected`]
 abbrev pub selected : {V W : Type 0} → ℕ → (List ℕ → Type 0) → (List ℕ → Bool) → Reason
     → (List ℕ → Bool) → Grammar V → Grammar W → Grammar (List ℕ × (V ⊎ W))
 selected id P test malformed chosen g h = record {

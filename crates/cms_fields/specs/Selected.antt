@@ -11,8 +11,7 @@ use Rattle.cms_fields.specs.declared.choice.Choice.TheVariants as choices
 abbrev pub then_by_value : {V W : Type 0} → Spelling V → (V → Spelling W) → Spelling (V × W)
 then_by_value R S b v = (b₁ b₂ : List ℕ) × (b ≡ b₁ ++ b₂) × R b₁ v.0 × S v.0 b₂ v.1
 
---- `either_by t R S`: a spelling by `R` of a value of the first kind if `t` is true, else by `S` of
----   one of the second
+--- `either_by t R S`: by `R`, a value of the first kind if `t` is true; else by `S`, of the second
 abbrev pub either_by : {V W : Type 0} → Bool → Spelling V → Spelling W → Spelling (V ⊎ W)
 either_by t R S b (inl v) = (t ≡ true) × R b v
 either_by t R S b (inr w) = (t ≡ false) × S b w

@@ -15,6 +15,7 @@ ContentInfo = List ℕ × SignedData
 abbrev pub content_type : ContentInfo → List ℕ
 content_type v = v.0
 
+-- content of a ContentInfo
 abbrev pub content : ContentInfo → SignedData
 content v = v.1
 
@@ -22,20 +23,19 @@ content v = v.1
 abbrev pub is_signed_data : List ℕ → Bool
 is_signed_data c = bytes_eq c id_signed_data
 
---- `signed_data_type`, `signed_data_content`: an OBJECT IDENTIFIER that is id-signedData; A0 with
----   one SignedData as its contents [RFC 5652, 3]
+--- `signed_data_type`: an OBJECT IDENTIFIER that is id-signedData [RFC 5652, 3]
 abbrev pub signed_data_type : Grammar (List ℕ)
 signed_data_type =
     constrained 0x06 IsObjectIdentifier is_object_identifier OidMalformed
     (λ t. t ≡ id_signed_data) is_signed_data NotSignedData
 
--- content, which is a SignedData
+--- `signed_data_content`: A0 with one SignedData as its contents [RFC 5652, 3]
 abbrev pub signed_data_content : Grammar SignedData
 signed_data_content = last (tagged 0xa0 (last signed_data))
 
 -- ContentInfo ::= SEQUENCE { contentType ContentType, content [0] EXPLICIT ANY DEFINED BY
--- contentType }: its fields
---- `content_info_fields`: the one, then the other [RFC 5652, 3]
+-- contentType }
+--- `content_info_fields`: its fields [RFC 5652, 3]
 abbrev pub content_info_fields : Grammar ContentInfo
 content_info_fields = then_by signed_data_type signed_data_content
 

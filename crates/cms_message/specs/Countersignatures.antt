@@ -15,8 +15,7 @@ use Rattle.cms_scalars.specs.ObjectIdentifiers.{id_countersignature}
 abbrev pub is_countersignature : List ℕ → Bool
 is_countersignature t = bytes_eq t id_countersignature
 
---- `UnsignedAttribute C`: the value of an unsigned attribute: its type, and countersignatures `C`
----   or opaque values [RFC 5652, 5.3, 11.4]
+--- `UnsignedAttribute C`: its type, and countersignatures `C` or opaque values [RFC 5652, 11.4]
 abbrev pub UnsignedAttribute : Type 0 → Type 0
 UnsignedAttribute C = List ℕ × (C ⊎ List (List ℕ))
 

@@ -19,13 +19,11 @@ abbrev pub as_set_of : List ℕ → List ℕ
 as_set_of [] = []
 as_set_of (t ∷ r) = 0x31 ∷ r
 
---- `content_given v detached`: eContent; if it is absent, the detached content that is given
----   [RFC 5652, 5.2]
+--- `content_given v detached`: eContent, or if it is absent the detached content [RFC 5652, 5.2]
 abbrev pub content_given : SignedData → Option (List ℕ) → Option (List ℕ)
 content_given v detached = option_or (e_content (encap_content_info v)) detached
 
---- `cover s content`: what the signature of the signer `s` covers: `as_set_of` its signed
----   attributes; if it has none, the content, if any [RFC 5652, 5.4]
+--- `cover s content`: signed attributes `as_set_of`, or if none the content [RFC 5652, 5.4]
 abbrev pub cover : {C : Type 0} → SignerInfo C → Option (List ℕ) → Option (List ℕ)
 cover s content = option_or (option_map (λ a. as_set_of a.0) (signed_attrs s)) content
 
@@ -73,12 +71,11 @@ attributes_along v path = option_map (λ a. a.0) (option_and_then signed_attrs (
 abbrev pub Covered : Type 0
 Covered = Option (List ℕ) × List ℕ
 
--- what f says of the countersignatures of an attribute
+--- `covers_below f a`: what `f` gives of the countersignatures of the attribute `a`
 abbrev pub covers_below : {C : Type 0} → (C → List Covered) → UnsignedAttribute C → List Covered
 covers_below f a = in_either f (λ vs. []) a.1
 
---- `covers_within d`, `covers_below`: those of a signer and of all below it; those of the
----   countersignatures of an attribute [RFC 5652, 11.4]
+--- `covers_within d`: the covers of a signer and of all below it [RFC 5652, 11.4]
 abbrev pub covers_within : (d : ℕ) → Option (List ℕ) → SignerWithin d → List Covered
 covers_within zero content s = absurd s
 covers_within (suc d) content s =
@@ -86,8 +83,7 @@ covers_within (suc d) content s =
     (flat_map (covers_below (flat_map (covers_within d (Some (signature s))))))
     (option_to_list (unsigned_attrs s))
 
---- `covers v detached`: the covers of all signers and countersignatures, each with its signature
----   (`Covered`) [RFC 5652, 5.4, 11.4]
+--- `covers v detached`: the covers of all signers and countersignatures [RFC 5652, 5.4, 11.4]
 abbrev pub covers : SignedData → Option (List ℕ) → List Covered
 covers v detached = flat_map (covers_within 5 (content_given v detached)) (signer_infos v)
 

@@ -11,21 +11,19 @@ use Rattle.cms_message.specs.SignedData.{SignedData, Signer, digest_algorithms, 
 use Rattle.cms_message.specs.SignedData.{signer_infos}
 use Rattle.cms_message.specs.ContentInfo.{ContentInfo, content}
 
--- its parameters
+--- `in_algorithm_identifier v`: its parameters
 abbrev pub in_algorithm_identifier : AlgorithmIdentifier → List (List ℕ)
 in_algorithm_identifier v = option_to_list (parameters v)
 
---- `in_sid`, `in_algorithm_identifier`: the issuer's name; the parameters
+--- `in_sid`: the issuer's name
 abbrev pub in_sid : SignerIdentifier → List (List ℕ)
 in_sid = in_either (λ v. v.0 ∷ []) (λ key. [])
 
---- `in_unsigned`: of an unsigned attribute, its opaque values, or what is so in its
----   countersignatures
+--- `in_unsigned f a`: the opaque values of an attribute, or what `f` gives of countersignatures
 abbrev pub in_unsigned : {C : Type 0} → (C → List (List ℕ)) → UnsignedAttribute C → List (List ℕ)
 in_unsigned f a = in_either f (λ vs. vs) a.1
 
---- `in_signer_info f s`: of a SignerInfo: the issuer's name, parameters, signedAttrs as one, and
----   what is so in its unsigned attributes
+--- `in_signer_info f s`: the name, parameters, signedAttrs as one, and those of unsigned attributes
 abbrev pub in_signer_info : {C : Type 0} → (C → List (List ℕ)) → SignerInfo C → List (List ℕ)
 in_signer_info f s =
     in_sid (sid s) ++
@@ -34,23 +32,22 @@ in_signer_info f s =
     ++ (in_algorithm_identifier (signature_algorithm s)
     ++ in_option (flat_map (in_unsigned f)) (unsigned_attrs s))))
 
+-- the same within `d` levels
 abbrev pub in_signer_within : (d : ℕ) → SignerWithin d → List (List ℕ)
 in_signer_within zero = λ s. []
 in_signer_within (suc d) = in_signer_info (flat_map (in_signer_within d))
 
---- `in_signer`, `in_signer_within d`: of a signer and of all countersignatures below it
+--- `in_signer`, `in_signer_within d`: those of a signer and all countersignatures below it
 abbrev pub in_signer : Signer → List (List ℕ)
 in_signer = in_signer_within 5
 
---- `in_signed_data`: parameters of digestAlgorithms, certificates, revocation information, and what
----   is so in each signer
+--- `in_signed_data v`: parameters, certificates, revocation information, and those of signers
 abbrev pub in_signed_data : SignedData → List (List ℕ)
 in_signed_data v =
     flat_map in_algorithm_identifier (digest_algorithms v)
     ++ (in_option (λ cs. cs) (certificates v)
     ++ (in_option (λ cs. cs) (crls v) ++ flat_map in_signer (signer_infos v)))
 
---- `in_content_info v`: the octets of a ContentInfo that are written as they were received; the
----   functions below collect them [ours]
+--- `in_content_info v`: of a ContentInfo, what is written as it was received [ours]
 abbrev pub in_content_info : ContentInfo → List (List ℕ)
 in_content_info v = in_signed_data (content v)

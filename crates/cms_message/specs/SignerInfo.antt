@@ -9,8 +9,7 @@ use Rattle.cms_message.specs.Attributes.{SignedAttributes, signed_attributes, un
 use Rattle.cms_message.specs.Countersignatures.{UnsignedAttribute, unsigned_attribute}
 use Rattle.cms_message.specs.Countersignatures.{no_countersignatures}
 
---- `IssuerAndSerialNumber`: the issuer's name, which is opaque, and the serial number
----   [RFC 5652, 10.2.4]
+--- `IssuerAndSerialNumber`: the issuer's name, opaque, and the number [RFC 5652, 10.2.4]
 abbrev pub IssuerAndSerialNumber : Type 0
 IssuerAndSerialNumber = List ℕ × List ℕ
 
@@ -18,10 +17,8 @@ IssuerAndSerialNumber = List ℕ × List ℕ
 abbrev pub is_name : ℕ → Bool
 is_name t = t == 0x30
 
--- IssuerAndSerialNumber ::= SEQUENCE { issuer Name, serialNumber CertificateSerialNumber }; Name is
--- an opaque SEQUENCE
---- `issuer_and_serial_number`: 30 with an opaque Name and an INTEGER as its contents
----   [RFC 5652, 10.2.4]
+-- IssuerAndSerialNumber ::= SEQUENCE { issuer Name, serialNumber CertificateSerialNumber }
+--- `issuer_and_serial_number`: 30 with these; a Name is an opaque element 30 [RFC 5652, 10.2.4]
 abbrev pub issuer_and_serial_number : Grammar IssuerAndSerialNumber
 issuer_and_serial_number = tagged 0x30 (then_by (opaque_among is_name) (last integer_type))
 
@@ -31,13 +28,11 @@ issuer_and_serial_number = tagged 0x30 (then_by (opaque_among is_name) (last int
 abbrev pub SignerIdentifier : Type 0
 SignerIdentifier = IssuerAndSerialNumber ⊎ List ℕ
 
---- `signer_identifier`: an IssuerAndSerialNumber; or an OCTET STRING with the identifier octet 80,
----   or A0 if it is constructed [RFC 5652, 5.3]
+--- `signer_identifier`: IssuerAndSerialNumber, or OCTET STRING 80, constructed A0 [RFC 5652, 5.3]
 abbrev pub signer_identifier : Grammar SignerIdentifier
 signer_identifier = choice issuer_and_serial_number (octet_string_type 0x80)
 
---- `SignerInfo C`: the value of a SignerInfo; `C` is the type of a set of countersignatures
----   [RFC 5652, 5.3]
+--- `SignerInfo C`: the value of a SignerInfo with countersignatures `C` [RFC 5652, 5.3]
 abbrev pub SignerInfo : Type 0 → Type 0
 SignerInfo C = List ℕ
     × (SignerIdentifier
@@ -46,27 +41,32 @@ SignerInfo C = List ℕ
     × (AlgorithmIdentifier × (List ℕ × Option (List (UnsignedAttribute C)))))))
 
 module _ {C : Type 0} where
-  --- `signer_info_version`, `sid`, `digest_algorithm`, `signed_attrs`: its first four parts
-  ---   [RFC 5652, 5.3]
+  --- `signer_info_version`, `sid`, `digest_algorithm`, `signed_attrs`, `signature_algorithm`,
+  ---   `signature`, `unsigned_attrs`: its fields [RFC 5652, 5.3]
   abbrev pub signer_info_version : SignerInfo C → List ℕ
   signer_info_version v = v.0
 
+  -- sid of a SignerInfo
   abbrev pub sid : SignerInfo C → SignerIdentifier
   sid v = v.1.0
 
+  -- digestAlgorithm of a SignerInfo
   abbrev pub digest_algorithm : SignerInfo C → AlgorithmIdentifier
   digest_algorithm v = v.1.1.0
 
+  -- signedAttrs of a SignerInfo
   abbrev pub signed_attrs : SignerInfo C → Option SignedAttributes
   signed_attrs v = v.1.1.1.0
 
-  --- `signature_algorithm`, `signature`, `unsigned_attrs`: its last three parts [RFC 5652, 5.3]
+  -- signatureAlgorithm of a SignerInfo
   abbrev pub signature_algorithm : SignerInfo C → AlgorithmIdentifier
   signature_algorithm v = v.1.1.1.1.0
 
+  -- signature of a SignerInfo
   abbrev pub signature : SignerInfo C → List ℕ
   signature v = v.1.1.1.1.1.0
 
+  -- unsignedAttrs of a SignerInfo
   abbrev pub unsigned_attrs : SignerInfo C → Option (List (UnsignedAttribute C))
   unsigned_attrs v = v.1.1.1.1.1.1
 
@@ -88,8 +88,7 @@ module _ {C : Type 0} where
   --   signatureAlgorithm SignatureAlgorithmIdentifier,
   --   signature SignatureValue,
   --   unsignedAttrs [1] IMPLICIT UnsignedAttributes OPTIONAL }
-  --- `signer_info c`: 30 with these as its contents; `c` describes a set of countersignatures
-  ---   [RFC 5652, 5.3]
+  --- `signer_info c`: 30 with these; `c` describes countersignatures [RFC 5652, 5.3]
   abbrev pub signer_info : Grammar C → Grammar (SignerInfo C)
   signer_info c =
       tagged 0x30
@@ -98,14 +97,13 @@ module _ {C : Type 0} where
       (then_by algorithm_identifier
       (after_digest_algorithm c))))
 
---- `SignerWithin d`: a SignerInfo within `d` levels, counting its own: its countersignatures are
----   within `d - 1`, [RFC 5652, 5.3, 11.4; the depth is ours]
---- | and within 0 there is none
+--- `SignerWithin d`: a SignerInfo with at most `d - 1` levels of countersignatures below it
+---   [RFC 5652, 5.3, 11.4; the depth is ours]
 abbrev pub SignerWithin : ℕ → Type 0
 SignerWithin zero = ⊥
 SignerWithin (suc d) = SignerInfo (List (SignerWithin d))
 
---- `countersignatures_within d`: a set of them [RFC 5652, 5.3, 11.4]
+--- `countersignatures_within d`: a set of them [RFC 5652, 11.4]
 abbrev pub countersignatures_within : (d : ℕ) → Grammar (List (SignerWithin d))
 countersignatures_within zero = no_countersignatures
 countersignatures_within (suc d) = set_of (signer_info (countersignatures_within d))

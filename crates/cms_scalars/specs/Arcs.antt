@@ -9,7 +9,8 @@ use Rattle.cms_scalars.specs.Scalars.{IsSubidentifier}
 abbrev pub subidentifier : Spelling ℕ
 subidentifier s n = (is : IsSubidentifier s) × (is.number ≡ n)
 
--- subidentifiers one after another
+--- `subidentifiers c ns`: `c` is subidentifiers one after another, which encode the numbers `ns`
+---   [X.690, 8.19.2]
 abbrev pub subidentifiers : Spelling (List ℕ)
 subidentifiers = rows subidentifier
 

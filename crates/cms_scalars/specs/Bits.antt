@@ -13,23 +13,22 @@ use Rattle.cms_scalars.specs.Scalars.{bits}
 use Rattle.cms_scalars.specs.declared.bits.NamedBits.{NamedBits}
 use Rattle.cms_scalars.specs.declared.bits.NamedBitsSpan.{NamedBitsSpan}
 
+--- `AreZeros bs`: each of the bits is 0
 abbrev pub AreZeros : List ℕ → Type 0
 AreZeros bs = AllByRecursion (λ b. b ≡ 0) bs
 
---- `HasNoTrailingZero v`, `AreZeros bs`: a list of bits does not end in 0; each bit is 0
+--- `HasNoTrailingZero v`: the last of the bits, if there is one, is not 0
 abbrev pub HasNoTrailingZero : List ℕ → Type 0
 HasNoTrailingZero v = (before : List ℕ) → v ≡ before ++ 0 ∷ [] → ⊥
 
---- `MayFollow m zeros unused`: any zeros and any unused bits; by DER, no zeros, and the unused bits
----   are 0 [X.690, 11.2]
+--- `MayFollow m zeros unused`: zeros; by DER there are none, and unused bits are 0 [X.690, 11.2]
 abbrev pub MayFollow : Rules → List ℕ → List ℕ → Type 0
 MayFollow ber zeros unused = AreZeros zeros
 MayFollow minimal zeros unused = AreZeros zeros
 MayFollow der zeros unused = (zeros ≡ []) × AreZeros unused
 
 --- `IsNamedBits m c v`: `c` is a count of unused bits, at most 7, and octets [X.690, 8.6.2]
---- | their bits are those of `v`, then zeros, then the unused bits; `v` does not end in 0
----   [X.680, 22.7]
+--- | their bits are `v`, which does not end in 0, then zeros and the unused bits [X.680, 22.7]
 pub record IsNamedBits (m : Rules) (c v : List ℕ) : Type 0 where
   pub count : ℕ
   pub octets : List ℕ

@@ -15,8 +15,7 @@ IsTrueOctet ber x = x ≢ 0
 IsTrueOctet minimal x = x ≢ 0
 IsTrueOctet der x = x ≡ 0xff
 
---- `truth m`: one contents octet: 00 is FALSE; TRUE is FF by DER, and else any but 00
----   [X.690, 8.2.2, 11.1]
+--- `truth m`: one octet: 00 is FALSE, and any other TRUE, by DER only FF [X.690, 8.2.2, 11.1]
 abbrev pub truth : Rules → Spelling Bool
 truth m c true = (x : ℕ) × (c ≡ x ∷ []) × IsOctet x × IsTrueOctet m x
 truth m c false = c ≡ 0 ∷ []
@@ -34,8 +33,7 @@ abbrev pub is_set : Option Bool → Bool
 is_set None = false
 is_set (Some v) = v
 
---- `default_false m`: a BOOLEAN DEFAULT FALSE: FALSE may be absent (`is_set`); by DER, it is
----   [X.690, 11.5]
+--- `default_false m`: BOOLEAN DEFAULT FALSE: FALSE may be absent, and by DER it is [X.690, 11.5]
 abbrev pub default_false : Rules → Spelling Bool
 default_false ber b v = image is_set (optional (boolean ber)) b v
 default_false minimal b v = image is_set (optional (boolean minimal)) b v

@@ -20,17 +20,15 @@ use Rattle.cms_scalars.specs.Scalars.{IsInteger, IsObjectIdentifier}
 use Rattle.cms_scalars.specs.Times.{IsGeneralizedTime}
 use Rattle.cms_scalars.specs.TimeReaders.{is_generalized_time}
 
---- `integer_type`, `object_identifier_type`: what `integer` and `object_identifier` spell
----   [X.690, 8.3, 8.19]
+--- `integer_type`: what `integer` spells [X.690, 8.3]
 abbrev pub integer_type : Grammar (List ℕ)
 integer_type = primitive 0x02 IsInteger is_integer IntegerMalformed
 
--- OBJECT IDENTIFIER
+--- `object_identifier_type`: what `object_identifier` spells [X.690, 8.19]
 abbrev pub object_identifier_type : Grammar (List ℕ)
 object_identifier_type = primitive 0x06 IsObjectIdentifier is_object_identifier OidMalformed
 
---- `integer_in_range_type id low high`: an INTEGER with the identifier octet `id` and `IsInRange
----   low high`; E8 for another number [X.680, 51.4; X.690, 8.14.3]
+--- `integer_in_range_type id low high`: an INTEGER `id` of this range, else E8 [X.680, 51.4]
 abbrev pub integer_in_range_type : ℕ → ℕ → ℕ → Grammar (List ℕ)
 integer_in_range_type id low high =
     constrained id IsInteger is_integer IntegerMalformed (IsInRange low high)

@@ -1,7 +1,7 @@
 -- The object identifiers that are known here, by their contents octets.
 use Rattle.std.specs.Prelude.{ℕ, List, [], ◌∷◌}
 
---- `pkcs`, `hash_algs`: the octets with which most of these begin
+--- `pkcs ds`: the contents octets of an OBJECT IDENTIFIER below 1.2.840.113549.1
 abbrev pub pkcs : List ℕ → List ℕ
 pkcs ds = 0x2a ∷ 0x86 ∷ 0x48 ∷ 0x86 ∷ 0xf7 ∷ 0x0d ∷ 0x01 ∷ ds
 
@@ -10,6 +10,7 @@ pkcs ds = 0x2a ∷ 0x86 ∷ 0x48 ∷ 0x86 ∷ 0xf7 ∷ 0x0d ∷ 0x01 ∷ ds
 abbrev pub id_data : List ℕ
 id_data = pkcs (7 ∷ 1 ∷ [])
 
+-- id-signedData, 1.2.840.113549.1.7.2 (RFC 5652, 5.1)
 abbrev pub id_signed_data : List ℕ
 id_signed_data = pkcs (7 ∷ 2 ∷ [])
 
@@ -24,6 +25,7 @@ id_message_digest = pkcs (9 ∷ 4 ∷ [])
 abbrev pub id_signing_time : List ℕ
 id_signing_time = pkcs (9 ∷ 5 ∷ [])
 
+-- id-countersignature, 1.2.840.113549.1.9.6 (RFC 5652, 11.4)
 abbrev pub id_countersignature : List ℕ
 id_countersignature = pkcs (9 ∷ 6 ∷ [])
 
@@ -44,7 +46,7 @@ id_aa_signing_certificate_v2 = pkcs (9 ∷ 16 ∷ 2 ∷ 47 ∷ [])
 abbrev pub id_sha1 : List ℕ
 id_sha1 = 0x2b ∷ 0x0e ∷ 0x03 ∷ 0x02 ∷ 0x1a ∷ []
 
--- below hashAlgs, 2.16.840.1.101.3.4.2 (RFC 8017, appendix B.1)
+--- `hash_algs d`: those of one below hashAlgs, 2.16.840.1.101.3.4.2 [RFC 8017, B.1]
 abbrev pub hash_algs : ℕ → List ℕ
 hash_algs d = 0x60 ∷ 0x86 ∷ 0x48 ∷ 0x01 ∷ 0x65 ∷ 0x03 ∷ 0x04 ∷ 0x02 ∷ d ∷ []
 

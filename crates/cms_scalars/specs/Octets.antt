@@ -11,20 +11,20 @@ use Rattle.cms_scalars.specs.Image.{image}
 abbrev pub octets : Spelling (List ℕ)
 octets = as_received AreOctets
 
---- `one_part c`, `of_either`, `in_turn pss`: `c` as the one part; the parts of either form; lists
----   of parts one after another
+--- `one_part c`: `c` as the only part
 abbrev pub one_part : List ℕ → List (List ℕ)
 one_part c = c ∷ []
 
+--- `of_either ps`: the parts of a string of either form
 abbrev pub of_either : List (List ℕ) ⊎ List (List ℕ) → List (List ℕ)
 of_either (inl ps) = ps
 of_either (inr ps) = ps
 
+--- `in_turn pss`: lists of parts, one after another
 abbrev pub in_turn : {A : Type 0} → List (List A) → List A
 in_turn pss = flat_map (λ ps. ps) pss
 
---- `string_parts m id S`: a string with the identifier octet `id`: primitive, or constructed from
----   what `S` spells [X.690, 8.7.1]
+--- `string_parts m id S`: a string `id`, primitive or made of what `S` spells [X.690, 8.7.1]
 --- | its parts are the contents octets of the primitive encodings, in their order [X.690, 8.7.3]
 abbrev pub string_parts : Rules → ℕ → Spelling (List (List ℕ)) → Spelling (List (List ℕ))
 string_parts m id S =
@@ -36,13 +36,11 @@ abbrev pub segments : Rules → ℕ → Spelling (List (List ℕ))
 segments m zero c ps = ⊥
 segments m (suc n) c ps = image in_turn (rows (string_parts m 0x04 (segments m n))) c ps
 
---- `octet_string_parts m id`: such a string, with at most eight constructed encodings inside one
----   another [X.690, 8.7; eight is ours]
+--- `octet_string_parts m id`: such a string, at most eight deep [X.690, 8.7; eight is ours]
 unfoldable pub octet_string_parts : Rules → ℕ → Spelling (List (List ℕ))
 octet_string_parts m id = string_parts m id (segments m 8)
 
---- `octet_string id m`: an OCTET STRING by its octets: the parts joined, and by DER primitive
----   [X.690, 8.7, 8.14.3, 10.2]
+--- `octet_string id m`: the parts joined; by DER, primitive [X.690, 8.7, 8.14.3, 10.2]
 unfoldable pub octet_string : ℕ → Rules → Spelling (List ℕ)
 octet_string id ber b v = image join (octet_string_parts ber id) b v
 octet_string id minimal b v = image join (octet_string_parts minimal id) b v

@@ -3,8 +3,7 @@ use Rattle.std.specs.Prelude.{◌≤◌, ◌==◌, ◌&&◌, ℕ, pos, List, Boo
 use Rattle.cms_tlv.specs.Headers.{big_endian}
 use Rattle.cms_scalars.specs.Values.{first_bit, IsTwosComplement}
 
---- `IsInRange low high c`: `c` encodes in two's complement a number from `low` to `high`
----   [X.680, 51.4]
+--- `IsInRange low high c`: `c` encodes a number from `low` to `high` [X.680, 51.4]
 abbrev pub IsInRange : ℕ → ℕ → List ℕ → Type 0
 IsInRange low high c = (n : ℕ) × IsTwosComplement c (pos n) × (low ≤ n) × (n ≤ high)
 

@@ -9,12 +9,11 @@ use Rattle.cms_scalars.specs.declared.times.TimeFault.{TimeFault}
 use Rattle.cms_scalars.specs.declared.times.TimeFault.TheVariants.{Form, NoSuchDate, NoSuchTime}
 use Rattle.cms_scalars.specs.declared.times.TimeFault.TheVariants.{OutOfMemory}
 
---- `IsDigit x`, `decimal_value ds`: `x` is the character of a decimal digit; the number that the
----   digits `ds` stand for
+--- `IsDigit x`: `x` is the character of a decimal digit
 abbrev pub IsDigit : ℕ → Type 0
 IsDigit x = (0x30 ≤ x) × (x ≤ 0x39)
 
--- the number that digits stand for
+--- `decimal_value ds`: the number that the digits `ds` stand for
 abbrev pub decimal_value : List ℕ → ℕ
 decimal_value [] = 0
 decimal_value (d ∷ ds) = (d - 0x30) * 10 ^ length ds + decimal_value ds
@@ -24,13 +23,11 @@ abbrev pub with_stop : List ℕ → List ℕ
 with_stop [] = []
 with_stop (d ∷ ds) = 0x2e ∷ d ∷ ds
 
---- `time_text d f`: the digits `d`, the fraction `f` after a full stop unless it is empty
----   (`with_stop`), and Z [X.690, 11.7.1 to 11.7.4]
+--- `time_text d f`: the digits `d`, a full stop and the fraction `f` if any, and Z [X.690, 11.7]
 abbrev pub time_text : List ℕ → List ℕ → List ℕ
 time_text digits fraction = digits ++ (with_stop fraction ++ 0x5a ∷ [])
 
---- `HasTimeForm c d f`: `c` is `time_text d f`; `d` is fourteen digits, YYYYMMDDhhmmss; `f` is
----   digits that do not end in 0 [X.690, 11.7.1 to 11.7.4]
+--- `HasTimeForm c d f`: `c` is `time_text d f`; `d` is YYYYMMDDhhmmss; no 0 ends `f` [X.690, 11.7]
 pub record HasTimeForm (c digits fraction : List ℕ) : Type 0 where
   pub text : c ≡ time_text digits fraction
   pub fourteen : length digits ≡ 14
@@ -38,42 +35,43 @@ pub record HasTimeForm (c digits fraction : List ℕ) : Type 0 where
   pub fraction_is_digits : AllByRecursion IsDigit fraction
   pub no_trailing_zero : (before : List ℕ) → fraction ≢ before ++ 0x30 ∷ []
 
--- the number of two of the digits, from an index on
+--- `two_from i d`: the number of two digits of `d`, which come after its first `i`
 abbrev pub two_from : ℕ → List ℕ → ℕ
 two_from i digits = decimal_value (take 2 (drop i digits))
 
---- `year d`, `month d`, `day d`, `hour d`, `minute d`, `second d`: the numbers of these digits;
----   `two_from i d` is that of two of them [X.680, 46]
+--- `year d`: the number of the digits 1 to 4 of `d`, counted from 1 [X.680, 46]
 abbrev pub year : List ℕ → ℕ
 year digits = decimal_value (take 4 digits)
 
+--- `month d`: that of the digits 5 and 6 [X.680, 46]
 abbrev pub month : List ℕ → ℕ
 month digits = two_from 4 digits
 
+--- `day d`: that of the digits 7 and 8 [X.680, 46]
 abbrev pub day : List ℕ → ℕ
 day digits = two_from 6 digits
 
+--- `hour d`: that of the digits 9 and 10 [X.680, 46]
 abbrev pub hour : List ℕ → ℕ
 hour digits = two_from 8 digits
 
+--- `minute d`: that of the digits 11 and 12 [X.680, 46]
 abbrev pub minute : List ℕ → ℕ
 minute digits = two_from 10 digits
 
+--- `second d`: that of the digits 13 and 14 [X.680, 46]
 abbrev pub second : List ℕ → ℕ
 second digits = two_from 12 digits
 
---- `HasDate d`: the Gregorian calendar has the date, from the year 0000 on, as the kit's
----   `jiff_core` defines it (`IsCivilDate`) [X.680, 46]
+--- `HasDate d`: the Gregorian calendar has the date, from the year 0000 on [X.680, 46]
 abbrev pub HasDate : List ℕ → Type 0
 HasDate digits = IsCivilDate (pos (year digits)) (month digits) (day digits)
 
---- `HasTimeOfDay d`: the hour is at most 23, and the minute and the second at most 59
----   [X.680, 46; no leap second: ours]
+--- `HasTimeOfDay d`: hours to 23, minutes and seconds to 59 [X.680, 46; no leap second: ours]
 abbrev pub HasTimeOfDay : List ℕ → Type 0
 HasTimeOfDay digits = (hour digits ≤ 23) × (minute digits ≤ 59) × (second digits ≤ 59)
 
---- `IsTimeOf c d f`: `c` is the contents of a GeneralizedTime by DER, with the digits `d` and the
----   fraction `f` [X.690, 8.25, 11.7]
+--- `IsTimeOf c d f`: `c` is a GeneralizedTime by DER: digits `d`, fraction `f` [X.690, 8.25, 11.7]
 pub record IsTimeOf (c digits fraction : List ℕ) : Type 0 where
   pub form : HasTimeForm c digits fraction
   pub date : HasDate digits
@@ -83,8 +81,7 @@ pub record IsTimeOf (c digits fraction : List ℕ) : Type 0 where
 abbrev pub IsGeneralizedTime : List ℕ → Type 0
 IsGeneralizedTime c = (digits fraction : List ℕ) × IsTimeOf c digits fraction
 
---- `generalized_time m`: an element 18 with such contents, which are the value
----   [X.690, 8.25; DER under BER too: ours]
+--- `generalized_time m`: an element 18 with such contents [X.690, 8.25; DER under BER too: ours]
 abbrev pub generalized_time : Rules → Spelling (List ℕ)
 generalized_time m = element m 0x18 (as_received IsGeneralizedTime)
 

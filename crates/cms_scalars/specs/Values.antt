@@ -7,7 +7,6 @@ abbrev pub first_bit : List ℕ → ℕ
 first_bit [] = 0
 first_bit (x ∷ xs) = x / 128
 
---- `IsTwosComplement c z`: `c` encodes the number `z` in two's complement: bit 8 of the first octet
----   (`first_bit`) counts negatively [X.690, 8.3.3]
+--- `IsTwosComplement c z`: `c` encodes the number `z` in two's complement [X.690, 8.3.3]
 abbrev pub IsTwosComplement : List ℕ → ℤ → Type 0
 IsTwosComplement c z = z +ℤ pos (first_bit c * 256 ^ length c) ≡ pos (big_endian c)

@@ -9,8 +9,7 @@ use Rattle.cms_fields.specs.Grammar.{Grammar, where_only}
 use Rattle.cms_setof.specs.Readers.{has_member}
 use Rattle.cms_setof.specs.Same.{same_members}
 
---- `set_of g`, `some_of g`: a set of the fields `g`; one with at least one member
----   (`cms_setof/specs/Grammar.antt`) [`SetOf`, `NonEmptySetOf`]
+--- `set_of g`: a set of the fields `g` (in `cms_setof`) [`SetOf`]
 abbrev pub set_of : {V : Type 0} → Grammar V → Grammar (List V)
 set_of g = record {
   spelled = λ m. members m (g.spelled m);
@@ -24,6 +23,6 @@ set_of g = record {
   malformed = says_later g.malformed;
 }
 
--- the same, with at least one member
+--- `some_of g`: a set of at least one field `g` (in `cms_setof`) [`NonEmptySetOf`]
 abbrev pub some_of : {V : Type 0} → Grammar V → Grammar (List V)
 some_of g = where_only (set_of g) (λ vs. vs ≢ []) has_member EmptyAttributes

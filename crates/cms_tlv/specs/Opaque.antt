@@ -3,9 +3,8 @@ use Rattle.std.specs.Prelude.{◌≡◌, ◌≢◌, ℕ, suc, ◌%◌, ◌<◌, 
 use Rattle.cms_tlv.specs.Headers.{AreOctets, IsConstructed, IsIdentifier, IsShortLength}
 use Rattle.cms_tlv.specs.Spelling.{Spelling}
 
---- `IsPrimitiveNumber k`: the universal type `k` must be primitive: 1 to 6, 10, 12, 18 to 28 and 30
----   [ours]
---- | DER encodes each of these so [X.690, 8.2 to 8.8, 8.19, 8.23, 8.25, 10.2]
+--- `IsPrimitiveNumber k`: the universal type `k` has to be primitive, as it is in DER
+---   [ours; X.690, 8.2 to 8.8, 8.19, 8.23, 8.25, 10.2]
 abbrev pub IsPrimitiveNumber : ℕ → Type 0
 IsPrimitiveNumber k = ((1 ≤ k) × (k ≤ 6)) ⊎ (k ≡ 10) ⊎ (k ≡ 12) ⊎ ((18 ≤ k) × (k ≤ 28)) ⊎ (k ≡ 30)
 
@@ -17,8 +16,7 @@ pub record HasItsForm (t : ℕ) : Type 0 where
 
 mutual
   --- `IsFramed b d`: `b` is an element at depth `d`, which is at most 64 [ours]
-  --- | its identifier is not 00 and has its form, and its length octets are the shortest
-  ---   [X.690, 10.1]
+  --- | its identifier is not 00 and `HasItsForm`; its length octets are the shortest [X.690, 10.1]
   --- | if its identifier is constructed, its contents are such elements at depth `d + 1` [ours]
   pub data IsFramed : List ℕ → ℕ → Type 0 where
     primitive : {t : ℕ} {i l : List ℕ} (c : List ℕ) (d : ℕ) → d ≤ 64 → IsIdentifier t i → t ≢ 0

@@ -5,10 +5,9 @@ use Rattle.std.specs.List.{AllZip, flat_map}
 use Rattle.cms_tlv.specs.Frames.{IsElement, IsDerElement}
 use Rattle.cms_tlv.specs.Order.{Ascends}
 
---- `Rules`: `ber`, `minimal`, `der`: the rules by which octets are read or written
----   [X.690, 8; 8 with 10.1 and 11.6; 10 and 11]
---- | `minimal` is BER in which each length is definite and in the fewest octets, and the members of
----   a set ascend
+--- `Rules`: by which rules octets are read or written: BER, or DER [X.690, 8, 10, 11]
+--- | `minimal` is BER in which each length is definite and shortest, and the members of a set
+---   ascend [X.690, 8, 10.1, 11.6]
 pub data Rules : Type 0 where
   ber minimal der : Rules
 
@@ -16,13 +15,13 @@ pub data Rules : Type 0 where
 abbrev pub Spelling : Type 0 → Type 1
 Spelling V = List ℕ → V → Type 0
 
+--- `IsElementBy m b id c`: by BER `IsElement`, else `IsDerElement` [X.690, 8.1.1, 10.1]
 abbrev pub IsElementBy : Rules → List ℕ → ℕ → List ℕ → Type 0
 IsElementBy ber b id c = IsElement b id c
 IsElementBy minimal b id c = IsDerElement b id c
 IsElementBy der b id c = IsDerElement b id c
 
---- `element m id R`: by the rules `m`, an element with the identifier octet `id` and contents that
----   `R` spells (`IsElementBy`) [X.690, 8.1.1, 10.1]
+--- `element m id R`: by `m`, an element: octet `id`, a length, and what `R` spells [X.690, 8.1.1]
 abbrev pub element : {V : Type 0} → Rules → ℕ → Spelling V → Spelling V
 element m id R b v = (c : List ℕ) × IsElementBy m b id c × R c v
 
@@ -36,12 +35,12 @@ abbrev pub optional : {V : Type 0} → Spelling V → Spelling (Option V)
 optional R b None = b ≡ []
 optional R b (Some v) = R b v
 
---- `either R S`: a spelling by `R` of a value of the first kind, or by `S` of one of the second
----   [X.690, 8.13]
+--- `either R S`: by `R`, a value of the first kind; or by `S`, one of the second [X.690, 8.13]
 abbrev pub either : {V W : Type 0} → Spelling V → Spelling W → Spelling (V ⊎ W)
 either R S b (inl v) = R b v
 either R S b (inr w) = S b w
 
+--- `InOrder m bs`: by BER in any order, else ascending [X.690, 11.6]
 abbrev pub InOrder : Rules → List (List ℕ) → Type 0
 InOrder ber bs = ⊤
 InOrder minimal bs = Ascends bs
@@ -55,8 +54,7 @@ join bs = flat_map (λ b. b) bs
 abbrev pub rows : {V : Type 0} → Spelling V → Spelling (List V)
 rows R b vs = (bs : List (List ℕ)) × (b ≡ join bs) × AllZip R bs vs
 
---- `members m R`: spellings by `R` one after another, which ascend, but by BER (`InOrder`)
----   [X.690, 8.12, 11.6]
+--- `members m R`: spellings by `R`, one after another, that are `InOrder` [X.690, 8.12, 11.6]
 abbrev pub members : {V : Type 0} → Rules → Spelling V → Spelling (List V)
 members m R b vs = (bs : List (List ℕ)) × (b ≡ join bs) × AllZip R bs vs × InOrder m bs
 

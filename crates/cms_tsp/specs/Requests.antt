@@ -10,10 +10,11 @@ use Rattle.cms_message.specs.Algorithms.{AlgorithmIdentifier, algorithm_identifi
 abbrev pub MessageImprint : Type 0
 MessageImprint = AlgorithmIdentifier × List ℕ
 
---- `hash_algorithm`, `hashed_message`: its parts [RFC 3161, 2.4.1]
+--- `hash_algorithm v`: hashAlgorithm of a MessageImprint [RFC 3161, 2.4.1]
 abbrev pub hash_algorithm : MessageImprint → AlgorithmIdentifier
 hash_algorithm v = v.0
 
+--- `hashed_message v`: hashedMessage of a MessageImprint [RFC 3161, 2.4.1]
 abbrev pub hashed_message : MessageImprint → List ℕ
 hashed_message v = v.1
 
@@ -22,8 +23,7 @@ hashed_message v = v.1
 abbrev pub message_imprint : Grammar MessageImprint
 message_imprint = tagged 0x30 (then_by algorithm_identifier (last (octet_string_type 0x04)))
 
---- `is_extensions t`: `t` is A0, the identifier octet of extensions, which are opaque
----   [RFC 3161, 2.4.1]
+--- `is_extensions t`: `t` is A0, the identifier octet of extensions [RFC 3161, 2.4.1]
 abbrev pub is_extensions : ℕ → Bool
 is_extensions t = t == 0xa0
 
@@ -32,11 +32,12 @@ abbrev pub TimeStampReq : Type 0
 TimeStampReq = List ℕ
     × (MessageImprint × (Option (List ℕ) × (Option (List ℕ) × (Bool × Option (List ℕ)))))
 
---- `req_version`, `imprint`, `req_policy`, `nonce`, `cert_req`, `extensions`: its parts
+--- `req_version`, `imprint`, `req_policy`, `nonce`, `cert_req`, `extensions`: its fields
 ---   [RFC 3161, 2.4.1]
 abbrev pub req_version : TimeStampReq → List ℕ
 req_version v = v.0
 
+-- messageImprint of a TimeStampReq
 abbrev pub imprint : TimeStampReq → MessageImprint
 imprint v = v.1.0
 
@@ -49,11 +50,18 @@ nonce v = v.1.1.1.0
 abbrev pub cert_req : TimeStampReq → Bool
 cert_req v = v.1.1.1.1.0
 
+-- extensions of a TimeStampReq
 abbrev pub extensions : TimeStampReq → Option (List ℕ)
 extensions v = v.1.1.1.1.1
 
---- `after_version`, `time_stamp_req_fields`: its fields after version; all of them
----   [RFC 3161, 2.4.1]
+-- TimeStampReq ::= SEQUENCE {
+--   version INTEGER,
+--   messageImprint MessageImprint,
+--   reqPolicy TSAPolicyId OPTIONAL,
+--   nonce INTEGER OPTIONAL,
+--   certReq BOOLEAN DEFAULT FALSE,
+--   extensions [0] IMPLICIT Extensions OPTIONAL }
+--- `after_version`: its fields after version [RFC 3161, 2.4.1]
 abbrev pub after_version : Grammar
     (MessageImprint × (Option (List ℕ) × (Option (List ℕ) × (Bool × Option (List ℕ)))))
 after_version =
@@ -63,13 +71,7 @@ after_version =
     (default_false_then
     (last_optional (opaque_among is_extensions)))))
 
--- TimeStampReq ::= SEQUENCE {
---   version INTEGER,
---   messageImprint MessageImprint,
---   reqPolicy TSAPolicyId OPTIONAL,
---   nonce INTEGER OPTIONAL,
---   certReq BOOLEAN DEFAULT FALSE,
---   extensions [0] IMPLICIT Extensions OPTIONAL }
+--- `time_stamp_req_fields`: all of them [RFC 3161, 2.4.1]
 abbrev pub time_stamp_req_fields : Grammar TimeStampReq
 time_stamp_req_fields = then_by integer_type after_version
 

@@ -7,8 +7,7 @@ use Rattle.cms_fields.specs.Grammar.{last_optional}
 use Rattle.cms_scalars.specs.Grammar.{integer_type, named_bits_type}
 use Rattle.cms_message.specs.ContentInfo.{ContentInfo, content_info}
 
---- `is_pki_free_text t`: `t` is 30, the identifier octet of statusString, which is opaque
----   [RFC 3161, 2.4.2]
+--- `is_pki_free_text t`: `t` is 30, the identifier octet of statusString [RFC 3161, 2.4.2]
 abbrev pub is_pki_free_text : ℕ → Bool
 is_pki_free_text t = t == 0x30
 
@@ -20,6 +19,7 @@ PkiStatusInfo = List ℕ × (Option (List ℕ) × Option (List ℕ))
 abbrev pub status : PkiStatusInfo → List ℕ
 status v = v.0
 
+-- statusString of a PKIStatusInfo
 abbrev pub status_string : PkiStatusInfo → Option (List ℕ)
 status_string v = v.1.0
 
@@ -27,9 +27,8 @@ abbrev pub fail_info : PkiStatusInfo → Option (List ℕ)
 fail_info v = v.1.1
 
 -- PKIStatusInfo ::= SEQUENCE { status PKIStatus, statusString PKIFreeText OPTIONAL, failInfo
--- PKIFailureInfo OPTIONAL }; PKIStatus is an INTEGER, and PKIFailureInfo a BIT STRING with named
--- bits
---- `pki_status_info`: 30 with these as its contents [RFC 3161, 2.4.2]
+-- PKIFailureInfo OPTIONAL }
+--- `pki_status_info`: 30 with these; statusString is opaque, failInfo named bits [RFC 3161, 2.4.2]
 abbrev pub pki_status_info : Grammar PkiStatusInfo
 pki_status_info =
     tagged 0x30 (then_by integer_type
@@ -39,21 +38,20 @@ pki_status_info =
 abbrev pub TimeStampResp : Type 0
 TimeStampResp = PkiStatusInfo × Option ContentInfo
 
---- `status_info`, `token`: its parts [RFC 3161, 2.4.2]
+--- `status_info v`: status of a TimeStampResp [RFC 3161, 2.4.2]
 abbrev pub status_info : TimeStampResp → PkiStatusInfo
 status_info v = v.0
 
+--- `token v`: timeStampToken of a TimeStampResp [RFC 3161, 2.4.2]
 abbrev pub token : TimeStampResp → Option ContentInfo
 token v = v.1
 
--- TimeStampResp ::= SEQUENCE { status PKIStatusInfo, timeStampToken TimeStampToken OPTIONAL };
--- TimeStampToken ::= ContentInfo
---- `time_stamp_resp_fields`, `time_stamp_resp`: its fields; 30 with these as its contents
----   [RFC 3161, 2.4.2]
+-- TimeStampResp ::= SEQUENCE { status PKIStatusInfo, timeStampToken TimeStampToken OPTIONAL }
+--- `time_stamp_resp_fields`: its fields; a TimeStampToken is a ContentInfo [RFC 3161, 2.4.2]
 abbrev pub time_stamp_resp_fields : Grammar TimeStampResp
 time_stamp_resp_fields = then_by pki_status_info (last_optional content_info)
 
--- the SEQUENCE of these fields
+--- `time_stamp_resp`: 30 with these fields as its contents [RFC 3161, 2.4.2]
 abbrev pub time_stamp_resp : Grammar TimeStampResp
 time_stamp_resp = tagged 0x30 time_stamp_resp_fields
 

@@ -9,11 +9,11 @@ use Rattle.cms_scalars.specs.Booleans.{IsTrueInDer}
 use Rattle.cms_scalars.specs.Times.{generalized_time}
 use Rattle.cms_tsp.specs.Requests.{MessageImprint, message_imprint}
 
---- `Accuracy`, `seconds`, `millis`, `micros`, `accuracy`: the value of an Accuracy, its parts, and
----   its spelling by DER [RFC 3161, 2.4.2]
+--- `Accuracy`: the value of an Accuracy [RFC 3161, 2.4.2]
 abbrev pub Accuracy : Type 0
 Accuracy = Option (List ℕ) × (Option (List ℕ) × Option (List ℕ))
 
+--- `seconds`, `millis`, `micros`: its fields [RFC 3161, 2.4.2]
 abbrev pub seconds : Accuracy → Option (List ℕ)
 seconds v = v.0
 
@@ -23,10 +23,9 @@ millis v = v.1.0
 abbrev pub micros : Accuracy → Option (List ℕ)
 micros v = v.1.1
 
--- Accuracy ::= SEQUENCE {
---   seconds INTEGER OPTIONAL,
---   millis [0] INTEGER (1..999) OPTIONAL,
+-- Accuracy ::= SEQUENCE { seconds INTEGER OPTIONAL, millis [0] INTEGER (1..999) OPTIONAL,
 --   micros [1] INTEGER (1..999) OPTIONAL }
+--- `accuracy`: 30 with these as its contents, by DER [RFC 3161, 2.4.2]
 abbrev pub accuracy : Spelling Accuracy
 accuracy = element der 0x30 (
     optional (integer der)
@@ -41,7 +40,7 @@ TstInfo = List ℕ
     × (Option Accuracy
     × (Option (List ℕ) × (Option (List ℕ) × (Option (List ℕ) × Option (List ℕ)))))))))
 
---- `tst_version`, `policy`, `tst_imprint`, `serial_number`, `gen_time`,: its parts
+--- `tst_version`, `policy`, `tst_imprint`, `serial_number`, `gen_time`: its first fields
 ---   [RFC 3161, 2.4.2]
 abbrev pub tst_version : TstInfo → List ℕ
 tst_version v = v.0
@@ -49,6 +48,7 @@ tst_version v = v.0
 abbrev pub policy : TstInfo → List ℕ
 policy v = v.1.0
 
+-- messageImprint of a TSTInfo
 abbrev pub tst_imprint : TstInfo → MessageImprint
 tst_imprint v = v.1.1.0
 
@@ -58,7 +58,7 @@ serial_number v = v.1.1.1.0
 abbrev pub gen_time : TstInfo → List ℕ
 gen_time v = v.1.1.1.1.0
 
---- `tst_accuracy`, `ordering`, `tst_nonce`, `tsa`, `tst_extensions`: its last parts
+--- `tst_accuracy`, `ordering`, `tst_nonce`, `tsa`, `tst_extensions`: its other fields
 ---   [RFC 3161, 2.4.2]
 abbrev pub tst_accuracy : TstInfo → Option Accuracy
 tst_accuracy v = v.1.1.1.1.1.0
@@ -87,8 +87,7 @@ tst_extensions v = v.1.1.1.1.1.1.1.1.1
 --   nonce INTEGER OPTIONAL,
 --   tsa [0] GeneralName OPTIONAL,
 --   extensions [1] IMPLICIT Extensions OPTIONAL }
--- By DER ordering is absent if it is FALSE (X.690, 11.5).
---- `tst_info`: the spelling: 30 with these as its contents, by DER [RFC 3161, 2.4.2]
+--- `tst_info`: 30 with these as its contents, by DER: no ordering if it is FALSE [RFC 3161, 2.4.2]
 abbrev pub tst_info : Spelling TstInfo
 tst_info = element der 0x30 (
     integer der
