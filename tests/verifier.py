@@ -33,7 +33,7 @@ import real_messages
 from countersignatures import package
 from elements import flipped, message as message_with, oid
 from generated_messages import SEED
-from real_messages import ToolFault, element_at, judge_with_tools, signed_attributes, signer_infos, written
+from real_messages import CONTENTS, ToolFault, element_at, judge_with_tools, signed_attributes, signer_infos, written
 from run_vectors import DATA_FILES
 from tally import Tally, differing as differs
 
@@ -105,11 +105,11 @@ def without_certificates(octets):
     return message_with(*(it.octets for it in real_messages.signed_data_of(octets).members if it.identifier != 0xA0))
 
 
-def with_unknown_algorithm(octets):
-    """Returns a message in DER whose one signer has a signatureAlgorithm that nobody knows."""
+def with_algorithm(octets, change):
+    """Returns a message in DER whose one signer has another signatureAlgorithm: `change` takes the contents of the one it has."""
     (signer,) = signer_infos(octets)
-    fields = [it.octets for it in signer.members]
-    fields[signer.members.index(signature_of(signer)) - 1] = written(0x30, UNKNOWN)
+    fields, at = [it.octets for it in signer.members], signer.members.index(signature_of(signer)) - 1
+    fields[at] = written(0x30, change(signer.members[at].contents))
     parts = [it.octets for it in real_messages.signed_data_of(octets).members[:-1]]
     return message_with(*parts, written(0x31, written(0x30, *fields)))
 
@@ -174,6 +174,22 @@ def judge_keys(tally, asker, tools):
         judge_signed(asker, tools, f"RSASSA-PSS{more}", f"{SIGN.format('key0')} -keyopt rsa_padding_mode:pss{more}")
 
 
+def judge_other_makers(tally, asker, tools):
+    """openssl verifies what gpgsm and the JDK write, NULL after an algorithm of ECDSA or DSA, and what iText does, the kind of the key."""
+    for key, digest in (("key3", "sha1"), ("key4", "sha384"), ("key6", "sha256")):
+        octets = tools.make(f"{SIGN.format(key)} -md {digest}")
+        changes = {"NULL": lambda algorithm: algorithm + NULL}
+        if key != "key6":
+            changes |= {"id-ecPublicKey": lambda _: oid(EC_PUBLIC_KEY), "id-ecPublicKey and NULL": lambda _: oid(EC_PUBLIC_KEY) + NULL}
+        for what, change in changes.items():
+            altered = with_algorithm(octets, change)
+            tools.write("altered.der", altered)
+            came = tools.make("openssl cms -verify -binary -noverify -inform DER -in altered.der")
+            tally.count(f"{key}, {digest}, {what}: openssl", differs(CONTENTS["content.txt"], came))
+            asker.count(f"{key}, {digest}, {what}", RIGHT, altered)
+            asker.count_altered(f"{key}, {digest}, {what}", WRONG, altered)
+
+
 def judge_signed(asker, tools, name, words):
     """Returns whether openssl makes the message, and counts the verdicts on it if so. No verdict is known by RIPEMD-160."""
     try:
@@ -184,7 +200,7 @@ def judge_signed(asker, tools, name, words):
     asker.count(name, RIGHT if is_known else NOT_KNOWN, octets)
     asker.count_altered(name, WRONG if is_known else NOT_KNOWN, octets)
     asker.count(f"{name}, without the certificate", NOT_KNOWN, without_certificates(octets))
-    asker.count(f"{name}, an unknown algorithm", NOT_KNOWN, with_unknown_algorithm(octets))
+    asker.count(f"{name}, an unknown algorithm", NOT_KNOWN, with_algorithm(octets, lambda _: UNKNOWN))
     return True
 
 
@@ -247,6 +263,7 @@ def algorithm_of(dotted, parameters=b""):
 
 
 NULL = b"\x05\x00"
+EC_PUBLIC_KEY = "1.2.840.10045.2.1"
 RSA, RSASSA_PSS, MGF1 = "1.2.840.113549.1.1.1", "1.2.840.113549.1.1.10", "1.2.840.113549.1.1.8"
 NIST = "2.16.840.1.101.3.4"
 ALGORITHMS = tomllib.loads((DATA_FILES / "algorithms.toml").read_text())
@@ -348,6 +365,7 @@ def judge_identifiers(tally, asker, keys):
             ("a signature changed", WRONG, {"signature": flipped(signature)}),
             ("a signature cut", NOT_KNOWN if is_of_numbers else WRONG, {"signature": signature[:-1]}),
             ("no signature", NOT_KNOWN if is_of_numbers else WRONG, {"signature": b""}),
+            ("NULL as parameters", NOT_KNOWN if is_pure else RIGHT, {"algorithm": algorithm_of(dotted, NULL)}),
             ("strange parameters", NOT_KNOWN, {"algorithm": algorithm_of(dotted, b"\x02\x01\x00")}),
             ("an unknown algorithm", NOT_KNOWN, {"algorithm": algorithm_of(f"{dotted}.1")}),
             ("another digestAlgorithm", NOT_KNOWN, {"due": DIGEST_ALGORITHMS["sha384" if digest == "sha256" else "sha256"]}),
@@ -356,11 +374,16 @@ def judge_identifiers(tally, asker, keys):
             ("the content changed", WRONG, {"content": CONTENT[1:]}),
         ):
             asker.count(f"{dotted}, {name}", wanted, message_of(**{**given, **others}))
-    for name, key, digest, algorithm, due in (
-        ("RSA without parameters", keys.rsa, "sha256", algorithm_of(RSA), SHA256),
-        ("Ed448, SHAKE256 by its length", keys.ed448, None, algorithm_of("1.3.101.113"), algorithm_of(f"{NIST}.2.18", integer(512))),
+    other_digest = DIGEST_ALGORITHMS["sha384"]
+    for name, wanted, key, digest, algorithm, due in (
+        ("RSA without parameters", RIGHT, keys.rsa, "sha256", algorithm_of(RSA), SHA256),
+        ("Ed448, SHAKE256 by its length", RIGHT, keys.ed448, None, algorithm_of("1.3.101.113"), algorithm_of(f"{NIST}.2.18", integer(512))),
+        ("id-ecPublicKey", RIGHT, keys.elliptic, "sha256", algorithm_of(EC_PUBLIC_KEY), SHA256),
+        ("id-ecPublicKey, another digest", WRONG, keys.elliptic, "sha256", algorithm_of(EC_PUBLIC_KEY), other_digest),
+        ("id-ecPublicKey, a curve", NOT_KNOWN, keys.elliptic, "sha256", algorithm_of(EC_PUBLIC_KEY, oid("1.2.840.10045.3.1.7")), SHA256),
+        ("id-ecPublicKey, a key of RSA", NOT_KNOWN, keys.rsa, "sha256", algorithm_of(EC_PUBLIC_KEY), SHA256),
     ):
-        asker.count(name, RIGHT, message_of(keys.signed(key, digest), [certificate_of(key_octets(key))], algorithm, due))
+        asker.count(name, wanted, message_of(keys.signed(key, digest), [certificate_of(key_octets(key))], algorithm, due))
 
 
 def pss_cases(keys):
@@ -671,7 +694,7 @@ def judge_tools(tally, asker, tools):
     real_messages.set_up(tools)
     for message in real_messages.all_messages(tools, tally):
         judge_real_message(tally, asker, tools, message)
-    for judge in (judge_gpgsm_digests, judge_keys, judge_curves, judge_restricted_keys):
+    for judge in (judge_gpgsm_digests, judge_keys, judge_other_makers, judge_curves, judge_restricted_keys):
         judge(tally, asker, tools)
 
 

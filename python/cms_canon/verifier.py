@@ -21,7 +21,9 @@ The certificates of a message are looked at once for all its signers. So what is
 proportion to the length of the message.
 
 The algorithms are RSA by PKCS #1 v1.5 (RFC 3370, RFC 5754), RSASSA-PSS (RFC 4056), ECDSA and DSA (RFC 3370, RFC 5754), with MD5,
-SHA-1, SHA-2 or SHA-3 as far as there is an identifier for them, and Ed25519 and Ed448 (RFC 8419).
+SHA-1, SHA-2 or SHA-3 as far as there is an identifier for them, and Ed25519 and Ed448 (RFC 8419). Of ECDSA and DSA, parameters that are
+NULL are the same as none, as gpgsm and the JDK write them; and the kind of the key, id-ecPublicKey, is ECDSA by digestAlgorithm, as
+iText writes it. OpenSSL verifies both.
 
 A signature is wrong only if the verification of the standard was done and came out so: OpenSSL also says so of a key that it cannot use,
 and then the verdict is None. Certificates are read here as far as they are looked at, since `cryptography` refuses whole ones for fields
@@ -73,7 +75,8 @@ _HASHES = {
 }
 
 _RSA, _RSASSA_PSS, _MGF1 = (f"{_PKCS1}.{it}" for it in (1, 10, 8))
-_DSA, _ED25519, _ED448 = "1.2.840.10040.4.1", "1.3.101.112", "1.3.101.113"
+_DSA, _EC_PUBLIC_KEY = "1.2.840.10040.4.1", "1.2.840.10045.2.1"
+_ED25519, _ED448 = "1.3.101.112", "1.3.101.113"
 
 # The digest of each algorithm that names one.
 _RSA_DIGESTS = {
@@ -394,16 +397,17 @@ def _check_point(octets: bytes, is_448: bool) -> None:
 def _how(job: Job, key: Any, restriction: Optional[AlgorithmIdentifier]) -> Tuple[Any, ...]:
     """What the method `verify` of the key takes after the signature and the octets."""
     oid, parameters = job.signature_algorithm
-    if isinstance(key, rsa.RSAPublicKey):
-        if oid == _RSASSA_PSS:
-            return _pss_how(job, restriction)
-        if restriction is None and parameters in (None, _NULL):
+    if isinstance(key, rsa.RSAPublicKey) and oid == _RSASSA_PSS:
+        return _pss_how(job, restriction)
+    if parameters in (None, _NULL):
+        if isinstance(key, rsa.RSAPublicKey) and restriction is None:
             return padding.PKCS1v15(), _hash(job.digest_algorithm, job.digest_algorithm.oid if oid == _RSA else _RSA_DIGESTS[oid])
-    elif parameters is None:
         if isinstance(key, ec.EllipticCurvePublicKey):
-            return (ec.ECDSA(_hash(job.digest_algorithm, _ECDSA_DIGESTS[oid])),)
+            due = job.digest_algorithm.oid if oid == _EC_PUBLIC_KEY else _ECDSA_DIGESTS[oid]
+            return (ec.ECDSA(_hash(job.digest_algorithm, due)),)
         if isinstance(key, dsa.DSAPublicKey):
             return (_hash(job.digest_algorithm, _DSA_DIGESTS[oid]),)
+    if parameters is None:
         if (isinstance(key, ed25519.Ed25519PublicKey) and oid == _ED25519 and _is_sha512(job.digest_algorithm)) or (
             isinstance(key, ed448.Ed448PublicKey) and oid == _ED448 and _is_shake256(job.digest_algorithm)
         ):
