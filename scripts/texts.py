@@ -297,7 +297,7 @@ def filled(text: str, region: Region) -> str:
 
 NUMBERED = (
     *("c/cms_canon.h", "crates/cms_c/src/outcome.rt", "java/src/cmscanon/CmsCanon.java", "python/README.md", "python/cms_canon/__init__.py"),
-    *("python/cms_canon/_calls.py", "rust/cms-canon/src/check.rs", "rust/cms-canon/src/error.rs"),
+    *("python/cms_canon/_calls.py", "rust/cms-canon/src/check.rs", "rust/cms-canon/src/error.rs", "man/cms-canon.1", "docs/USING.md"),
 )
 
 
@@ -315,5 +315,5 @@ def files() -> Dict[str, str]:
     for region in REGIONS:
         texts[region.file] = filled(texts.get(region.file) or (TOP / region.file).read_text(), region)
     for name in NUMBERED:
-        texts[name] = with_last_numbers((TOP / name).read_text())
+        texts[name] = with_last_numbers(texts.get(name) or (TOP / name).read_text())
     return texts

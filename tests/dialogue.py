@@ -17,6 +17,7 @@ import sys
 import threading
 from pathlib import Path
 
+from elements import ID_SIGNED_DATA, INDEFINITE, element, oid
 from run_vectors import PROGRAM, octets_of, read_vectors
 from tally import Tally
 
@@ -108,6 +109,31 @@ def a_part_of_the_next(program, messages):
             peer.ends()
 
 
+def indefinite(identifier, *contents):
+    """Returns the element of indefinite length with these contents, one after another."""
+    return bytes([identifier, INDEFINITE]) + b"".join(contents) + b"\0\0"
+
+
+def with_a_long_tag(enclosing):
+    """Returns a message with a value whose tag has two octets and whose contents are zeros. What is around it is written by `enclosing`."""
+    attribute = enclosing(0x30, oid("1.2.3.4"), enclosing(0x31, bytes.fromhex("9f7f82012c") + bytes(300)))
+    algorithm, signature = element(0x30, oid("2.16.840.1.101.3.4.2.1")), element(0x04, bytes(24))
+    signer = enclosing(0x30, bytes.fromhex("0201038000"), algorithm, algorithm, signature, enclosing(0xA1, attribute))
+    content = element(0x30, oid("1.2.840.113549.1.7.1"))
+    return enclosing(0x30, ID_SIGNED_DATA, enclosing(0xA0, enclosing(0x30, bytes.fromhex("0201033100"), content, enclosing(0x31, signer))))
+
+
+def a_part_with_a_long_tag(program, messages):
+    """If the second octet of the tag were read as a length, the zeros would end all elements around it, and the part would seem whole."""
+    (message, der), octets = messages[0], with_a_long_tag(indefinite)
+    with Peer(program) as peer:
+        peer.send(message + octets[:357])
+        peer.awaits(der, f"message 0, sent with 357 of {len(octets)} octets of the next")
+        peer.send(octets[357:])
+        peer.awaits(with_a_long_tag(element), "message 1")
+        peer.ends()
+
+
 def some_at_once(program, messages):
     """All messages are sent at once, and the DER of all of them is awaited before the end."""
     with Peer(program) as peer:
@@ -160,8 +186,8 @@ def a_long_batch(program, messages):
 
 CHECKS = {
     "one after another": one_after_another, "one after another, over a socket": functools.partial(one_after_another, of_sockets=True),
-    "a part of the next": a_part_of_the_next, "some at once": some_at_once, "octet by octet": octet_by_octet,
-    "before a refusal": before_a_refusal, "a long batch": a_long_batch,
+    "a part of the next": a_part_of_the_next, "a part with a long tag": a_part_with_a_long_tag, "some at once": some_at_once,
+    "octet by octet": octet_by_octet, "before a refusal": before_a_refusal, "a long batch": a_long_batch,
 }
 
 

@@ -33,7 +33,7 @@ import real_messages
 from countersignatures import package
 from elements import flipped, message as message_with, oid
 from generated_messages import SEED
-from real_messages import ToolFault, element_at, judge_with_tools, signed_attributes, signer_infos, written
+from real_messages import CONTENTS, ToolFault, element_at, judge_with_tools, signed_attributes, signer_infos, written
 from run_vectors import DATA_FILES
 from tally import Tally, differing as differs
 
@@ -105,11 +105,11 @@ def without_certificates(octets):
     return message_with(*(it.octets for it in real_messages.signed_data_of(octets).members if it.identifier != 0xA0))
 
 
-def with_unknown_algorithm(octets):
-    """Returns a message in DER whose one signer has a signatureAlgorithm that nobody knows."""
+def with_algorithm(octets, change):
+    """Returns a message in DER whose one signer has another signatureAlgorithm: `change` takes the contents of the one it has."""
     (signer,) = signer_infos(octets)
-    fields = [it.octets for it in signer.members]
-    fields[signer.members.index(signature_of(signer)) - 1] = written(0x30, UNKNOWN)
+    fields, at = [it.octets for it in signer.members], signer.members.index(signature_of(signer)) - 1
+    fields[at] = written(0x30, change(signer.members[at].contents))
     parts = [it.octets for it in real_messages.signed_data_of(octets).members[:-1]]
     return message_with(*parts, written(0x31, written(0x30, *fields)))
 
@@ -174,6 +174,22 @@ def judge_keys(tally, asker, tools):
         judge_signed(asker, tools, f"RSASSA-PSS{more}", f"{SIGN.format('key0')} -keyopt rsa_padding_mode:pss{more}")
 
 
+def judge_other_makers(tally, asker, tools):
+    """openssl verifies what gpgsm and the JDK write, NULL after an algorithm of ECDSA or DSA, and what iText does, the kind of the key."""
+    for key, digest in (("key3", "sha1"), ("key4", "sha384"), ("key6", "sha256")):
+        octets = tools.make(f"{SIGN.format(key)} -md {digest}")
+        changes = {"NULL": lambda algorithm: algorithm + NULL}
+        if key != "key6":
+            changes |= {"id-ecPublicKey": lambda _: oid(EC_PUBLIC_KEY), "id-ecPublicKey and NULL": lambda _: oid(EC_PUBLIC_KEY) + NULL}
+        for what, change in changes.items():
+            altered = with_algorithm(octets, change)
+            tools.write("altered.der", altered)
+            came = tools.make("openssl cms -verify -binary -noverify -inform DER -in altered.der")
+            tally.count(f"{key}, {digest}, {what}: openssl", differs(CONTENTS["content.txt"], came))
+            asker.count(f"{key}, {digest}, {what}", RIGHT, altered)
+            asker.count_altered(f"{key}, {digest}, {what}", WRONG, altered)
+
+
 def judge_signed(asker, tools, name, words):
     """Returns whether openssl makes the message, and counts the verdicts on it if so. No verdict is known by RIPEMD-160."""
     try:
@@ -184,7 +200,7 @@ def judge_signed(asker, tools, name, words):
     asker.count(name, RIGHT if is_known else NOT_KNOWN, octets)
     asker.count_altered(name, WRONG if is_known else NOT_KNOWN, octets)
     asker.count(f"{name}, without the certificate", NOT_KNOWN, without_certificates(octets))
-    asker.count(f"{name}, an unknown algorithm", NOT_KNOWN, with_unknown_algorithm(octets))
+    asker.count(f"{name}, an unknown algorithm", NOT_KNOWN, with_algorithm(octets, lambda _: UNKNOWN))
     return True
 
 
@@ -238,7 +254,8 @@ def judge_restricted_keys(tally, asker, tools):
 # ---- messages that are put together
 
 def integer(number):
-    return written(0x02, number.to_bytes(number.bit_length() // 8 + 1, "big", signed=True))
+    """Returns an INTEGER in DER, or one with these contents octets."""
+    return written(0x02, number if isinstance(number, bytes) else number.to_bytes(number.bit_length() // 8 + 1, "big", signed=True))
 
 
 def algorithm_of(dotted, parameters=b""):
@@ -246,6 +263,7 @@ def algorithm_of(dotted, parameters=b""):
 
 
 NULL = b"\x05\x00"
+EC_PUBLIC_KEY = "1.2.840.10045.2.1"
 RSA, RSASSA_PSS, MGF1 = "1.2.840.113549.1.1.1", "1.2.840.113549.1.1.10", "1.2.840.113549.1.1.8"
 NIST = "2.16.840.1.101.3.4"
 ALGORITHMS = tomllib.loads((DATA_FILES / "algorithms.toml").read_text())
@@ -266,14 +284,19 @@ BY_KEY_IDENTIFIER = b"\x80\x01\x11"  # of a signer
 
 
 def certificate_of(key, issuer=NAME, serial=5, extensions=b"", version=2):
-    """Returns a Certificate for a SubjectPublicKeyInfo, whose own signature is not right."""
+    """Returns a Certificate for a SubjectPublicKeyInfo, whose own signature is not right. `extensions` is all that follows the key."""
     validity = written(0x30, written(0x17, b"250101000000Z") * 2)
     fields = [written(0xA0, integer(version)), integer(serial), RSA_WITH_NULL, issuer, validity, NAME, key, extensions]
     return written(0x30, written(0x30, *fields), RSA_WITH_NULL, written(0x03, b"\0" * 9))
 
 
-def key_identifier_extension(value=b"\x04\x01\x11"):
-    return written(0xA3, written(0x30, written(0x30, oid("2.5.29.14"), written(0x04, value))))
+def extension(value=b"\x04\x01\x11", critical=b"", kind=oid("2.5.29.14")):
+    """Returns an Extension: a key identifier, if no other kind is named."""
+    return written(0x30, kind, critical, written(0x04, value))
+
+
+def extensions_of(*extensions):
+    return written(0xA3, written(0x30, *extensions))
 
 
 def by_issuer(issuer=NAME, serial=5):
@@ -342,6 +365,7 @@ def judge_identifiers(tally, asker, keys):
             ("a signature changed", WRONG, {"signature": flipped(signature)}),
             ("a signature cut", NOT_KNOWN if is_of_numbers else WRONG, {"signature": signature[:-1]}),
             ("no signature", NOT_KNOWN if is_of_numbers else WRONG, {"signature": b""}),
+            ("NULL as parameters", NOT_KNOWN if is_pure else RIGHT, {"algorithm": algorithm_of(dotted, NULL)}),
             ("strange parameters", NOT_KNOWN, {"algorithm": algorithm_of(dotted, b"\x02\x01\x00")}),
             ("an unknown algorithm", NOT_KNOWN, {"algorithm": algorithm_of(f"{dotted}.1")}),
             ("another digestAlgorithm", NOT_KNOWN, {"due": DIGEST_ALGORITHMS["sha384" if digest == "sha256" else "sha256"]}),
@@ -350,11 +374,16 @@ def judge_identifiers(tally, asker, keys):
             ("the content changed", WRONG, {"content": CONTENT[1:]}),
         ):
             asker.count(f"{dotted}, {name}", wanted, message_of(**{**given, **others}))
-    for name, key, digest, algorithm, due in (
-        ("RSA without parameters", keys.rsa, "sha256", algorithm_of(RSA), SHA256),
-        ("Ed448, SHAKE256 by its length", keys.ed448, None, algorithm_of("1.3.101.113"), algorithm_of(f"{NIST}.2.18", integer(512))),
+    other_digest = DIGEST_ALGORITHMS["sha384"]
+    for name, wanted, key, digest, algorithm, due in (
+        ("RSA without parameters", RIGHT, keys.rsa, "sha256", algorithm_of(RSA), SHA256),
+        ("Ed448, SHAKE256 by its length", RIGHT, keys.ed448, None, algorithm_of("1.3.101.113"), algorithm_of(f"{NIST}.2.18", integer(512))),
+        ("id-ecPublicKey", RIGHT, keys.elliptic, "sha256", algorithm_of(EC_PUBLIC_KEY), SHA256),
+        ("id-ecPublicKey, another digest", WRONG, keys.elliptic, "sha256", algorithm_of(EC_PUBLIC_KEY), other_digest),
+        ("id-ecPublicKey, a curve", NOT_KNOWN, keys.elliptic, "sha256", algorithm_of(EC_PUBLIC_KEY, oid("1.2.840.10045.3.1.7")), SHA256),
+        ("id-ecPublicKey, a key of RSA", NOT_KNOWN, keys.rsa, "sha256", algorithm_of(EC_PUBLIC_KEY), SHA256),
     ):
-        asker.count(name, RIGHT, message_of(keys.signed(key, digest), [certificate_of(key_octets(key))], algorithm, due))
+        asker.count(name, wanted, message_of(keys.signed(key, digest), [certificate_of(key_octets(key))], algorithm, due))
 
 
 def pss_cases(keys):
@@ -374,6 +403,8 @@ def pss_cases(keys):
     for name, parameters in (
         ("no parameters", b""), ("NULL", NULL), ("another trailer", pss_parameters(sha256, sha256, 32, written(0xA3, integer(2)))),
         ("a salt of less than nothing", pss_parameters(sha256, sha256, -1)), ("a salt of 2^64", pss_parameters(sha256, sha256, 1 << 64)),
+        ("a padded salt", pss_parameters(sha256, sha256, b"\0\x20")),
+        ("a padded trailer", pss_parameters(sha256, sha256, 32, written(0xA3, integer(b"\0\1")))),
         ("a field twice", written(0x30, fields[0], *fields)), ("fields turned round", written(0x30, *reversed(fields))),
         ("another field", written(0x30, *fields, written(0xA4, integer(1)))),
         ("another mask", written(0x30, fields[0] + written(0xA1, algorithm_of("2.999.3", sha256)) + fields[2])),
@@ -385,6 +416,7 @@ def pss_cases(keys):
         ("a salt that is no number", written(0x30, fields[0] + fields[1] + written(0xA2, b"\x04\x01\x20"))),
     ):
         yield name, parameters, all_right, NOT_KNOWN
+    yield "a salt without octets", pss_parameters(sha256, sha256, b""), ("sha256", "sha256", 0), NOT_KNOWN
 
 
 def judge_pss(tally, asker, keys):
@@ -405,12 +437,34 @@ def rsa_key_octets(modulus, exponent):
 Case = namedtuple("Case", "name wanted certificates given signer signature", defaults=[(), by_issuer(), b""])
 
 
+def cases_of_der(own):
+    """Gives certificates of which a field that is looked at is not in DER, and some like them that are."""
+    for octets, number in (b"", 0), (b"\0\5", 5), (b"\xff\xfb", -5):
+        yield Case(f"the serial number {number} as {octets.hex()}", NOT_KNOWN, [own(serial=octets)], signer=by_issuer(serial=number))
+    for name, wanted, how in (
+        ("fields of version 2", RIGHT, {"extensions": b"\x81\1\0\x82\1\0"}), ("these turned round", NOT_KNOWN, {"extensions": b"\x82\1\0\x81\1\0"}),
+        ("extensions twice", NOT_KNOWN, {"extensions": extensions_of(extension()) * 2}), ("another field", NOT_KNOWN, {"extensions": b"\xa4\0"}),
+        ("a default version that is there", NOT_KNOWN, {"version": 0}), ("a padded version", NOT_KNOWN, {"version": b"\0\2"}),
+    ):
+        yield Case(name, wanted, [own(**how)])
+    right = own()
+    yield Case("a signature that is no BIT STRING", NOT_KNOWN, [right[:-11] + b"\x04" + right[-10:]])
+    for name, wanted, *extensions in (
+        ("critical", RIGHT, extension(critical=b"\1\1\xff")), ("critical by another TRUE", NOT_KNOWN, extension(critical=b"\1\1\1")),
+        ("a default that is there", NOT_KNOWN, extension(critical=b"\1\1\0")), ("another field", NOT_KNOWN, extension(critical=NULL)),
+        ("twice", NOT_KNOWN, extension(), extension(b"\x04\x01\x12")),
+        ("beside an identifier that is not in DER", NOT_KNOWN, extension(kind=b"\x06\2\x80\1"), extension()),
+    ):
+        yield Case(f"a key identifier, {name}", wanted, [own(extensions=extensions_of(*extensions))], signer=BY_KEY_IDENTIFIER)
+
+
 def cases_of_certificates(keys):
     """Gives certificates that do not fit, cannot be read, or contradict one another."""
     own = functools.partial(certificate_of, key_octets(keys.rsa))
     right, other, strange = own(), certificate_of(key_octets(keys.other)), written(0x30, integer(5))
     unfit = certificate_of(key_octets(keys.other), serial=6)
-    identified, broken = (own(extensions=key_identifier_extension(*it)) for it in ((), (b"\0",)))
+    identified, broken = (own(extensions=extensions_of(extension(*it))) for it in ((), (b"\0",)))
+    yield from cases_of_der(own)
     yield from (
         Case("the right one", RIGHT, [right]), Case("another key", WRONG, [other]), Case("another serial number", NOT_KNOWN, [own(serial=6)]),
         Case("a serial number of less than nothing", RIGHT, [own(serial=-5)], signer=by_issuer(serial=-5)),
@@ -433,12 +487,15 @@ def cases_of_certificates(keys):
 
 def cases_of_keys(keys):
     """Gives keys that cannot be read, or by which nothing is calculated."""
-    bits = b"\0" + written(0x30, integer(keys.rsa.public_key().public_numbers().n), integer(65537))
+    n = keys.rsa.public_key().public_numbers().n
+    bits = b"\0" + written(0x30, integer(n), integer(65537))
     for name, wanted, key, *signature in (
         ("a key that cannot be read", NOT_KNOWN, written(0x30, RSA_WITH_NULL)),
         ("a key put together here", RIGHT, written(0x30, RSA_WITH_NULL, written(0x03, bits))),
         ("a key with unused bits", NOT_KNOWN, written(0x30, RSA_WITH_NULL, written(0x03, b"\1" + bits[1:]))),
         ("a key with parameters", NOT_KNOWN, written(0x30, algorithm_of(RSA, integer(5)), written(0x03, bits))),
+        ("a padded modulus", NOT_KNOWN, rsa_key_octets(b"\0" + integer(n)[4:], 65537)),
+        ("a padded exponent", NOT_KNOWN, rsa_key_octets(n, b"\0\1\0\1")),
         ("a key of an unknown kind", NOT_KNOWN, written(0x30, written(0x30, UNKNOWN), b"\x03\x02\0\0")),
         # By these keys OpenSSL says of any signature that it is wrong, and has not calculated.
         ("a modulus of 17000 bits", NOT_KNOWN, rsa_key_octets((1 << 17000) + 1, 65537), bytes(2126)),
@@ -450,6 +507,22 @@ def cases_of_keys(keys):
         yield Case(name, wanted, [certificate_of(key)], (), by_issuer(), *signature)
 
 
+def judge_dsa_keys(asker, keys):
+    """Keys of DSA that are put together here, of which a number is not in DER, or OpenSSL does not take the group."""
+    of_key = keys.dsa.public_key().public_numbers()
+    group = of_key.parameter_numbers
+    p, q, g, y = map(integer, (group.p, group.q, group.g, of_key.y))
+    longer_p, longer_y = (b"\x02\x83\0" + it[2:] for it in (p, y))
+    for name, wanted, *parameters, number in (
+        ("in DER", RIGHT, p, q, g, y), ("a longer length in the group", NOT_KNOWN, longer_p, q, g, y), ("a longer length", NOT_KNOWN, p, q, g, longer_y),
+        ("an octet after it", NOT_KNOWN, p, q, g, y + b"\0"), ("another number in the group", NOT_KNOWN, p, q, g, g, y),
+        ("an order of 200 bits", NOT_KNOWN, integer((1 << 2047) + 9), integer((1 << 199) + 5), g, integer(4)),
+    ):
+        key = written(0x30, algorithm_of("1.2.840.10040.4.1", written(0x30, *parameters)), written(0x03, b"\0", number))
+        octets = message_of(keys.signed(keys.dsa, "sha256"), [], algorithm_of(f"{NIST}.3.2"))
+        asker.count(f"certificates: a key of DSA, {name}", wanted, octets, [certificate_of(key)])
+
+
 def judge_certificates(tally, asker, keys):
     signature = keys.signed(keys.rsa, "sha256")
     for it in (*cases_of_certificates(keys), *cases_of_keys(keys)):
@@ -459,10 +532,7 @@ def judge_certificates(tally, asker, keys):
     octets, unfit = message_of(signature, [right]), certificate_of(key_octets(keys.other), serial=6)
     asker.count("certificates: or one in the message", RIGHT, octets, [unfit], or_in_message=True)
     asker.count("certificates: none handed in", NOT_KNOWN, octets, verifier=asker.by_certificates([]))
-    p, q, g, y = map(integer, ((1 << 2047) + 9, (1 << 199) + 5, 2, 4))
-    short_group = written(0x30, algorithm_of("1.2.840.10040.4.1", written(0x30, p, q, g)), written(0x03, b"\0", y))
-    octets = message_of(keys.signed(keys.dsa, "sha256"), [certificate_of(short_group)], algorithm_of(f"{NIST}.3.2"))
-    asker.count("certificates: a group of DSA with an order of 200 bits", NOT_KNOWN, octets)
+    judge_dsa_keys(asker, keys)
     indefinite, longer = b"\x30\x80" + element_at(right, 0).contents + b"\0\0", b"\x30\x83\0" + right[2:]  # the same length in one octet more
     none = (b"", written(0x30, integer(5)), indefinite, longer, right[:-1], right + b"\0", b"-----BEGIN CERTIFICATE-----")
     for name, given, error, said in (
@@ -554,7 +624,7 @@ def judge_memory(tally, asker, keys):
 def judge_many(tally, asker, keys):
     """One verifier does not mix up the certificates of several messages, and reads each once for all signers."""
     signature = keys.signed(keys.rsa, "sha256")
-    right, other = (certificate_of(key_octets(it), extensions=key_identifier_extension()) for it in (keys.rsa, keys.other))
+    right, other = (certificate_of(key_octets(it), extensions=extensions_of(extension())) for it in (keys.rsa, keys.other))
     verifier, module = asker.by_certificates(), sys.modules["cms_canon.verifier"]
     for certificates, wanted in ([right], RIGHT), ([other], WRONG), ([right], RIGHT), ([right, other], NOT_KNOWN), ([], NOT_KNOWN):
         name = f"one verifier over several messages, {len(certificates)} certificates"
@@ -624,7 +694,7 @@ def judge_tools(tally, asker, tools):
     real_messages.set_up(tools)
     for message in real_messages.all_messages(tools, tally):
         judge_real_message(tally, asker, tools, message)
-    for judge in (judge_gpgsm_digests, judge_keys, judge_curves, judge_restricted_keys):
+    for judge in (judge_gpgsm_digests, judge_keys, judge_other_makers, judge_curves, judge_restricted_keys):
         judge(tally, asker, tools)
 
 

@@ -21,7 +21,9 @@ The certificates of a message are looked at once for all its signers. So what is
 proportion to the length of the message.
 
 The algorithms are RSA by PKCS #1 v1.5 (RFC 3370, RFC 5754), RSASSA-PSS (RFC 4056), ECDSA and DSA (RFC 3370, RFC 5754), with MD5,
-SHA-1, SHA-2 or SHA-3 as far as there is an identifier for them, and Ed25519 and Ed448 (RFC 8419).
+SHA-1, SHA-2 or SHA-3 as far as there is an identifier for them, and Ed25519 and Ed448 (RFC 8419). Of ECDSA and DSA, parameters that are
+NULL are the same as none, as gpgsm and the JDK write them; and the kind of the key, id-ecPublicKey, is ECDSA by digestAlgorithm, as
+iText writes it. OpenSSL verifies both.
 
 A signature is wrong only if the verification of the standard was done and came out so: OpenSSL also says so of a key that it cannot use,
 and then the verdict is None. Certificates are read here as far as they are looked at, since `cryptography` refuses whole ones for fields
@@ -33,7 +35,7 @@ from __future__ import annotations
 import re
 from functools import cached_property
 from itertools import islice
-from typing import AbstractSet, Any, Dict, Iterable, Iterator, List, NamedTuple, Optional, Sequence, Set, Tuple, Union
+from typing import AbstractSet, Any, Dict, Iterable, Iterator, List, NamedTuple, Optional, Set, Tuple, Union
 from weakref import WeakKeyDictionary
 
 from cryptography import x509
@@ -73,6 +75,7 @@ _HASHES = {
 }
 
 _RSA, _RSASSA_PSS, _MGF1 = (f"{_PKCS1}.{it}" for it in (1, 10, 8))
+_DSA, _EC_PUBLIC_KEY = "1.2.840.10040.4.1", "1.2.840.10045.2.1"
 _ED25519, _ED448 = "1.3.101.112", "1.3.101.113"
 
 # The digest of each algorithm that names one.
@@ -91,7 +94,7 @@ _DSA_DIGESTS = {
     **{f"{_NIST_SIGNATURES}.{it}": digest for it, digest in enumerate((_SHA224, _SHA256, _SHA384, _SHA512, *_SHA3), 1)},
 }
 
-_SUBJECT_KEY_IDENTIFIER = bytes.fromhex("0603551d0e")  # 2.5.29.14
+_SUBJECT_KEY_IDENTIFIER = "2.5.29.14"
 _SHA1_IN_DER = bytes.fromhex("300906052b0e03021a0500")
 _MGF1_BY_SHA1_IN_DER = bytes.fromhex("301606092a864886f70d010108") + _SHA1_IN_DER
 
@@ -166,12 +169,13 @@ def _elements(octets: bytes) -> Iterator[_Element]:
         at = end
 
 
-def _members(octets: bytes, most: int) -> List[_Element]:
-    """The members of the one SEQUENCE in DER, which has at most so many: millions of small ones would take much memory."""
+def _members(octets: bytes, most: int, identifiers: bytes) -> List[_Element]:
+    """The members of the one SEQUENCE in DER: at most so many, since millions of small ones would take much memory, and with
+    identifiers that match this pattern."""
     (sequence,) = _elements(octets)
     found = [*islice(_elements(_checked(sequence, 0x30).contents), most + 1)]
-    if len(found) > most:
-        raise ValueError("too many members")
+    if not re.fullmatch(identifiers, bytes(it.identifier for it in found), re.DOTALL):
+        raise ValueError("other members are due")
     return found
 
 
@@ -182,16 +186,31 @@ def _checked(element: _Element, identifier: int) -> _Element:
 
 
 def _integer(element: _Element) -> int:
-    return int.from_bytes(_checked(element, 0x02).contents, "big", signed=True)
+    """The INTEGER, which has an octet, and whose first nine bits are not all the same (X.690, sections 8.3.1 and 8.3.2)."""
+    contents = _checked(element, 0x02).contents
+    if re.match(rb"\Z|\x00[\x00-\x7f]|\xff[\x80-\xff]", contents):
+        raise ValueError("not an INTEGER in DER")
+    return int.from_bytes(contents, "big", signed=True)
+
+
+def _whole(octets: bytes) -> int:
+    """The one INTEGER in DER."""
+    (integer,) = _elements(octets)
+    return _integer(integer)
+
+
+def _oid(element: _Element) -> str:
+    """The text of the OBJECT IDENTIFIER (X.690, section 8.19)."""
+    contents = _checked(element, 0x06).contents
+    if not re.fullmatch(rb"(?:(?:[\x81-\xff][\x80-\xff]*)?[\x00-\x7f])+", contents):
+        raise ValueError("not an OBJECT IDENTIFIER in DER")
+    return dotted(contents)
 
 
 def _algorithm(octets: bytes) -> AlgorithmIdentifier:
     """The AlgorithmIdentifier in DER."""
-    identifier, *parameters = _members(octets, 2)
-    contents = _checked(identifier, 0x06).contents
-    if not re.fullmatch(rb"(?:(?:[\x81-\xff][\x80-\xff]*)?[\x00-\x7f])+", contents):
-        raise ValueError("not an algorithm in DER")
-    return AlgorithmIdentifier(dotted(contents), parameters[0].octets if parameters else None)
+    identifier, *parameters = _members(octets, 2, rb"\x06.?")
+    return AlgorithmIdentifier(_oid(identifier), parameters[0].octets if parameters else None)
 
 
 # ---- certificates
@@ -203,28 +222,41 @@ class _Certificate(NamedTuple):
     issuer: bytes
     serial_number: int
     key: bytes  # subjectPublicKeyInfo
-    extensions: Sequence[bytes]  # the field, if it is there
+    extensions: Optional[bytes]
 
     @property
     def subject_key_identifier(self) -> Optional[bytes]:
-        """Raises `ValueError` if an extension cannot be read."""
-        for extensions in self.extensions:
-            (sequence,) = _elements(extensions)
-            for extension in _elements(_checked(sequence, 0x30).contents):
-                identifier, *_, value = _members(extension.octets, 3)
-                if identifier.octets == _SUBJECT_KEY_IDENTIFIER:
-                    (found,) = _elements(_checked(value, 0x04).contents)
-                    return _checked(found, 0x04).contents
-        return None
+        """Raises `ValueError` if an extension cannot be read, or if two are key identifiers (RFC 5280, section 4.2)."""
+        if self.extensions is None:
+            return None
+        (sequence,) = _elements(self.extensions)
+        found: Optional[_Element] = None
+        for extension in _elements(_checked(sequence, 0x30).contents):
+            identifier, value = _extension(extension.octets)
+            if identifier == _SUBJECT_KEY_IDENTIFIER:
+                if found is not None:
+                    raise ValueError("two key identifiers")
+                (found,) = _elements(value)
+        return None if found is None else _checked(found, 0x04).contents
+
+
+def _extension(octets: bytes) -> Tuple[str, bytes]:
+    """The identifier and the value of the Extension in DER, in which `critical` is absent if it is FALSE."""
+    identifier, *critical, value = _members(octets, 3, rb"\x06\x01?\x04")
+    if critical and critical[0].contents != b"\xff":
+        raise ValueError("not an Extension in DER")
+    return _oid(identifier), value.contents
 
 
 def _certificate(octets: bytes) -> _Certificate:
     """Raises `ValueError` if these octets are not a Certificate in DER, as far as that is looked at."""
-    tbs_certificate, _, _ = _members(octets, 3)
-    fields = _members(tbs_certificate.octets, 10)
-    serial_number, _, issuer, _, _, key = (it for it in fields if it.identifier < 0x80)  # the others are those that may be absent
-    extensions = [it.contents for it in fields if it.identifier == 0xA3]
-    return _Certificate(_checked(issuer, 0x30).octets, _integer(serial_number), _checked(key, 0x30).octets, extensions)
+    tbs_certificate, _, _ = _members(octets, 3, rb"\x30\x30\x03")
+    fields = _members(tbs_certificate.octets, 10, rb"\xa0?\x02\x30{5}\x81?\x82?\xa3?")
+    serial_number, _, issuer, _, _, key = (it for it in fields if it.identifier < 0x80)
+    optional = {it.identifier: it.contents for it in fields if it.identifier >= 0x80}
+    if 0xA0 in optional and _whole(optional[0xA0]) == 0:
+        raise ValueError("the default version is there")
+    return _Certificate(issuer.octets, _integer(serial_number), key.octets, optional.get(0xA3))
 
 
 def _given_certificate(number: int, certificate: Union[Octets, x509.Certificate]) -> _Certificate:
@@ -299,17 +331,26 @@ def _public_key(octets: bytes) -> Tuple[Any, Optional[AlgorithmIdentifier]]:
 
     Of RSA the numbers are read here: not every release of `cryptography` knows such a restriction, or that a number is negative.
     """
-    algorithm, bits = _members(octets, 2)
-    known, contents = _algorithm(algorithm.octets), _checked(bits, 0x03).contents
+    algorithm, bits = _members(octets, 2, rb"\x30\x03")
+    known, contents = _algorithm(algorithm.octets), bits.contents
     if contents[:1] != b"\0":
         raise ValueError("a key with unused bits")
+    if known.oid == _DSA:
+        _check_numbers(known.parameters or b"", contents[1:])
     if known.oid not in (_RSA, _RSASSA_PSS):
         return load_der_public_key(octets), None
     if known.oid == _RSA and known.parameters not in (None, _NULL):
         raise ValueError("a key of RSA with parameters")
-    modulus, exponent = _members(contents[1:], 2)
+    modulus, exponent = _members(contents[1:], 2, rb"\x02\x02")
     key = rsa.RSAPublicNumbers(_integer(exponent), _integer(modulus)).public_key()
     return key, known if known.oid == _RSASSA_PSS else None
+
+
+def _check_numbers(group: bytes, number: bytes) -> None:
+    """Refuses a key of DSA whose numbers are not in DER: some releases of `cryptography` have OpenSSL read them, which takes BER."""
+    for it in _members(group, 3, rb"\x02{3}"):
+        _integer(it)
+    _whole(number)
 
 
 def _check_key(key: Any) -> None:
@@ -356,16 +397,17 @@ def _check_point(octets: bytes, is_448: bool) -> None:
 def _how(job: Job, key: Any, restriction: Optional[AlgorithmIdentifier]) -> Tuple[Any, ...]:
     """What the method `verify` of the key takes after the signature and the octets."""
     oid, parameters = job.signature_algorithm
-    if isinstance(key, rsa.RSAPublicKey):
-        if oid == _RSASSA_PSS:
-            return _pss_how(job, restriction)
-        if restriction is None and parameters in (None, _NULL):
+    if isinstance(key, rsa.RSAPublicKey) and oid == _RSASSA_PSS:
+        return _pss_how(job, restriction)
+    if parameters in (None, _NULL):
+        if isinstance(key, rsa.RSAPublicKey) and restriction is None:
             return padding.PKCS1v15(), _hash(job.digest_algorithm, job.digest_algorithm.oid if oid == _RSA else _RSA_DIGESTS[oid])
-    elif parameters is None:
         if isinstance(key, ec.EllipticCurvePublicKey):
-            return (ec.ECDSA(_hash(job.digest_algorithm, _ECDSA_DIGESTS[oid])),)
+            due = job.digest_algorithm.oid if oid == _EC_PUBLIC_KEY else _ECDSA_DIGESTS[oid]
+            return (ec.ECDSA(_hash(job.digest_algorithm, due)),)
         if isinstance(key, dsa.DSAPublicKey):
             return (_hash(job.digest_algorithm, _DSA_DIGESTS[oid]),)
+    if parameters is None:
         if (isinstance(key, ed25519.Ed25519PublicKey) and oid == _ED25519 and _is_sha512(job.digest_algorithm)) or (
             isinstance(key, ed448.Ed448PublicKey) and oid == _ED448 and _is_shake256(job.digest_algorithm)
         ):
@@ -410,19 +452,10 @@ def _pss_how(job: Job, restriction: Optional[AlgorithmIdentifier]) -> Tuple[Any,
 
 
 def _pss(parameters: Optional[bytes]) -> _Pss:
-    """Parameters that are there, each field once and in turn; a field with its default value may be there too."""
-    fields = _members(parameters or b"", 4)
-    if [it.identifier for it in fields] != sorted({it.identifier for it in fields} & {0xA0, 0xA1, 0xA2, 0xA3}):
-        raise ValueError("not the parameters of RSASSA-PSS")
-    values = {it.identifier: it.contents for it in fields}
+    """Parameters that are there. A field may be there with its default value, though that is not DER: RFC 4055 wants this recognised."""
+    values = {it.identifier: it.contents for it in _members(parameters or b"", 4, rb"\xa0?\xa1?\xa2?\xa3?")}
     mask = _algorithm(values.get(0xA1, _MGF1_BY_SHA1_IN_DER))
     salt_length, trailer = (_whole(values.get(it, default)) for it, default in ((0xA2, b"\x02\x01\x14"), (0xA3, b"\x02\x01\x01")))
     if mask.oid != _MGF1 or mask.parameters is None or trailer != 1:
         raise ValueError("not parameters that are known")
     return _Pss(_algorithm(values.get(0xA0, _SHA1_IN_DER)), _algorithm(mask.parameters), salt_length)
-
-
-def _whole(octets: bytes) -> int:
-    """The one INTEGER in DER."""
-    (integer,) = _elements(octets)
-    return _integer(integer)
