@@ -55,11 +55,17 @@ read_of input given rest limit m r e is h =
 -- what a fault of reading them says of octets in memory
 pub fault_of : (limit : ℕ) (b given rest : List ℕ) (f : Fault) → given ≡ b
     → MessageFaults (between (Some given) 0 (Some rest) 0) limit Refuse f → FaultOf limit b f
-fault_of limit b given rest (faults.Refused reason at) e h = (h.octets, rest, sym e ∙ h.taken, h.place, record {
-  truncated = h.refusal.truncated;
-  hopeless = h.refusal.hopeless;
-  why = h.refusal.why;
-})
+fault_of limit b given rest (faults.Refused reason at) e h = (
+  h.octets,
+  rest,
+  sym e ∙ h.taken,
+  h.place,
+  record {
+    truncated = h.refusal.truncated;
+    hopeless = h.refusal.hopeless;
+    why = h.refusal.why;
+  },
+)
 fault_of limit b given rest faults.Read e (inl n, t) = absurd (omega arith)
 fault_of limit b given rest faults.Read e (inr n, t) = absurd (omega arith)
 fault_of limit b given rest (faults.Write written) e h = h

@@ -1,5 +1,5 @@
 -- The octets before each refusal of a record's reader say why, as those of its parts do.
-use Rattle.std.proofs.Common.{inl, inr, ◌⊎◌, ℕ, Bool, true, List}
+use Rattle.std.proofs.Common.{inl, inr, ℕ, Bool, true, List}
 use Rattle.cms_tlv.specs.declared.fault.Reason.{Reason}
 use Rattle.cms_tlv.specs.declared.fault.Reason.TheVariants.{UnexpectedElement}
 use Rattle.cms_tlv.specs.declared.bound.Bound.{Bound}

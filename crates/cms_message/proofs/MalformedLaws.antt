@@ -1,8 +1,7 @@
 -- The octets that a ContentInfo is refused for end in what is malformed.
-use Rattle.std.proofs.Common.{◌≡◌, inl, inr, ℕ, zero, suc, List, ◌++◌, sym, subst}
+use Rattle.std.proofs.Common.{inl, inr, ℕ, zero, suc, List, ◌++◌, sym, subst}
 use Rattle.cms_tlv.specs.declared.fault.Reason.{Reason}
 use Rattle.cms_tlv.specs.Headers.{IsHeader}
-use Rattle.cms_tlv.specs.RefusalReasons.{says_inside, says_later}
 use Rattle.cms_fields.specs.Grammar.{Grammar}
 use Rattle.cms_scalars.specs.Malformed.{IsMalformed}
 use Rattle.cms_scalars.proofs.MalformedLaws.{AreMalformed, later, inside, both, in_turn, nothing, integer, identifier, content_type, after}
@@ -11,7 +10,7 @@ use Rattle.cms_message.specs.Attributes.{signed_attributes}
 use Rattle.cms_message.specs.Countersignatures.{unsigned_attribute}
 use Rattle.cms_message.specs.SignerInfo.{signer_identifier, signer_info, countersignatures_within}
 use Rattle.cms_message.specs.SignedData.{encapsulated_content_info, signed_data}
-use Rattle.cms_message.specs.ContentInfo.{signed_data_type, signed_data_content, content_info_fields, content_info}
+use Rattle.cms_message.specs.ContentInfo.{signed_data_content, content_info_fields, content_info}
 
 pub algorithm : AreMalformed algorithm_identifier.malformed
 algorithm = inside (in_turn identifier nothing) 0x30

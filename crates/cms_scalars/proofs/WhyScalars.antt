@@ -1,5 +1,5 @@
 -- The octets before each refusal of a scalar or a string say why.
-use Rattle.std.proofs.Common.{inl, inr, ℕ, zero, suc, List, refl}
+use Rattle.std.proofs.Common.{inl, inr, ℕ, zero, suc, List}
 use Rattle.cms_tlv.specs.declared.fault.Reason.{Reason}
 use Rattle.cms_tlv.specs.declared.fault.Reason.TheVariants.{BooleanMalformed, BitsMalformed, SegmentsTooDeep}
 use Rattle.cms_tlv.specs.declared.bound.Bound.{Bound}

@@ -12,7 +12,7 @@ use Rattle.cms_tlv.specs.Refines.{Simulates, Failed}
 use Rattle.cms_tlv.specs.Reading.{Reader, ◌>>=◌, octet_of, header_of, expected_of, enter_of}
 use Rattle.cms_tlv.specs.Spelling.{Spelling}
 use Rattle.cms_tlv.specs.State.{State, Succeeds, Progresses, FaultIsSticky, Looked, NoOctet, EndUnknown, FailsWith, as_list, position}
-use Rattle.cms_tlv.proofs.OctetGives.{FailsAs, stops, unfailed_by}
+use Rattle.cms_tlv.proofs.OctetGives.{FailsAs, stops}
 use Rattle.cms_tlv.proofs.Steps.{accounts_then, not_read}
 
 -- a call after others

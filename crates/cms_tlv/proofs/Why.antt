@@ -1,5 +1,5 @@
 -- The octets before each refusal of a pure reader say why, for each combinator.
-use Rattle.std.proofs.Common.{◌≡◌, ◌⊎◌, inl, inr, ℕ, zero, suc, ◌+◌, ◌-◌, ◌≤◌, Bool, true, false, cond, eqb, List, [], ◌∷◌, ◌++◌, Option, Some, None, Result, Ok, Err, refl, sym, ap, subst, ◌∙◌, append_assoc, length, length-append, arith}
+use Rattle.std.proofs.Common.{◌≡◌, inl, inr, ℕ, zero, suc, ◌+◌, ◌-◌, ◌≤◌, Bool, true, false, cond, eqb, List, [], ◌∷◌, ◌++◌, Option, Some, None, Result, Ok, Err, refl, sym, ap, subst, ◌∙◌, append_assoc, length, length-append, arith}
 use Rattle.cms_tlv.specs.declared.fault.Reason.{Reason}
 use Rattle.cms_tlv.specs.declared.fault.Reason.TheVariants.{UnexpectedElement, SignedAttrsNotDer}
 use Rattle.cms_tlv.specs.declared.bound.Bound.{Bound}
@@ -393,7 +393,7 @@ module _ (id : ℕ) (P : List ℕ → Type 0) (test : List ℕ → Bool) (malfor
   -- a further test of them
   pub constrained_explained : (Q : List ℕ → Type 0) (also : List ℕ → Bool) (refusal : Reason) → ((v : List ℕ) → also v ≡ false → Q v → ⊥)
       → (bd : Bound) → Explained (either_says (says_malformed id P malformed) (says_malformed id Q refusal)) 1 bd
-          (scalar_of id test malformed bd >>= give_if also refusal)
+      (scalar_of id test malformed bd >>= give_if also refusal)
   unfolding give_if
   constrained_explained Q also refusal more bd = record {
     goes = λ c d v e.

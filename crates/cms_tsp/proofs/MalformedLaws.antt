@@ -1,7 +1,7 @@
 -- The octets that requests and responses are refused for end in what is malformed.
 use Rattle.cms_scalars.proofs.MalformedLaws.{AreMalformed, inside, in_turn, nothing, integer, identifier, boolean, named_bits}
 use Rattle.cms_message.proofs.MalformedLaws.{algorithm, content_info_ends}
-use Rattle.cms_tsp.specs.Requests.{message_imprint, after_version, time_stamp_req_fields}
+use Rattle.cms_tsp.specs.Requests.{message_imprint, after_version}
 use Rattle.cms_tsp.specs.Responses.{pki_status_info, time_stamp_resp_fields}
 
 imprint : AreMalformed message_imprint.malformed

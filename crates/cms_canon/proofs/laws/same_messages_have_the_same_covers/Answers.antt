@@ -1,9 +1,6 @@
-use Rattle.std.proofs.Common.{◌≡◌, ℕ, List, bytes_eq, true, refl, sym}
-use Rattle.cms_tlv.specs.Spelling.{Rules}
+use Rattle.std.proofs.Common.{ℕ, List, bytes_eq, refl, sym}
 use Rattle.cms_fields.proofs.ReceivedLaws.{keeps_either}
 use Rattle.cms_message.specs.Cover.{same_covered}
-use Rattle.cms_canon.specs.Kinds.{MessageValue, whole_message, same_message}
-use Rattle.cms_canon.specs.Received.{content_in}
 use Rattle.cms_canon.proofs.ReceivedLaws.{requested_kept, imprint_kept, content_kept, covers_kept}
 use Rattle.cms_canon.proofs.laws.same_messages_have_the_same_covers.Goals as goal
 
