@@ -13,34 +13,30 @@ use Rattle.cms_message.specs.ContentInfo.{signed_data_content}
 use Rattle.cms_tsp.specs.Requests.{TimeStampReq, MessageImprint, imprint, after_version}
 use Rattle.cms_tsp.specs.Responses.{TimeStampResp, token, time_stamp_resp_fields}
 
---- `MessageValue`: the value of a ContentInfo, a TimeStampReq or a TimeStampResp [RFC 5652, 3; RFC
----   3161, 2.4.1, 2.4.2]
+--- `MessageValue`: a ContentInfo, a TimeStampReq or a TimeStampResp [RFC 5652, 3; RFC 3161, 2.4]
 abbrev pub MessageValue : Type 0
 MessageValue = ContentInfo ⊎ (TimeStampReq ⊎ TimeStampResp)
 
---- `message`: 30 with the fields of a ContentInfo, of a TimeStampReq or of a TimeStampResp; the
----   first identifier octet inside says which: 06, 02 or else 30
----   [RFC 5652, 3; RFC 3161, 2.4.1, 2.4.2]
+--- `message`: 30 with the fields of one of these as its contents [RFC 5652, 3; RFC 3161, 2.4]
+--- | the first identifier octet inside says of which: 06, 02, or else 30
 abbrev pub message : Grammar MessageValue
 message = tagged 0x30
     (contents_choice signed_data_type signed_data_content
     (contents_choice integer_type after_version time_stamp_resp_fields))
 
---- `whole_message m`, `same_message`, `whole_message_of`: how it is spelled; two are of one kind,
----   and the same; the pure reader [ours: the same]
+--- `whole_message m`: how a message is spelled by the rules `m`
 abbrev pub whole_message : Rules → Spelling MessageValue
 whole_message = message.spelled
 
--- of one kind, and the same
+--- `same_message v w`: two messages are of one kind, and the same [ours]
 abbrev pub same_message : MessageValue → MessageValue → Bool
 same_message = message.same
 
--- the pure reader
+--- `whole_message_of bd`: the pure reader of a message
 abbrev pub whole_message_of : Bound → Reader MessageValue
 whole_message_of = message.reader
 
---- `signed_in v`: the ContentInfo that the message is, or that is the token of a response [RFC
----   3161, 2.4.2]
+--- `signed_in v`: the ContentInfo that the message is, or that is its token [RFC 3161, 2.4.2]
 abbrev pub signed_in : MessageValue → Option ContentInfo
 signed_in (inl v) = Some v
 signed_in (inr (inl v)) = None

@@ -8,8 +8,7 @@ use Rattle.cms_tlv.specs.declared.fault.Reason.TheVariants.{BitsMalformed, NotSi
 use Rattle.cms_tlv.specs.Headers.{IsConstructed, IsIdentifier, IsLength}
 use Rattle.cms_scalars.specs.Malformed.{IsMalformed}
 
---- `EndInHeader octets P`: the last of the octets are identifier octets that begin with `t`, and
----   then `l`, with `P t l`
+--- `EndInHeader octets P`: they end in identifier octets that begin with `t`, and `l`, with `P t l`
 pub record EndInHeader (octets : List ℕ) (P : ℕ → List ℕ → Type 0) : Type 0 where
   pub before : List ℕ
   pub identifier : List ℕ

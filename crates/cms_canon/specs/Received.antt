@@ -27,14 +27,13 @@ IsImprintIn v i =
     (read : Option TstInfo) × IsTstInfoOf (option_and_then (λ c. c) (content_in v)) read
     × (i ≡ option_or (requested_in v) (option_map tst_imprint read))
 
---- `covers_in v detached`: the covers of all its signers and countersignatures, each with its
----   signature [RFC 5652, 5.4, 11.4]
+--- `covers_in v detached`: the covers in its SignedData, if it has one [RFC 5652, 5.4, 11.4]
 abbrev pub covers_in : MessageValue → Option (List ℕ) → List Covered
 covers_in v detached = flat_map (λ s. covers s detached) (option_to_list (signed_data_in v))
 
---- `HaveTheSame v w`: two messages have the same content; each list of octets is equally often in
----   `opaque_in` of both; and whatever detached content is given, each pair of a cover and a
----   signature is equally often in both [ours]
+--- `HaveTheSame v w`: the content is the same, and each list in `opaque_in` equally often in both
+---   [ours]
+--- | whatever detached content is given, each cover with its signature is equally often in both
 pub record HaveTheSame (v w : MessageValue) : Type 0 where
   pub counted : (z : List ℕ) → times z (opaque_in v) ≡ times z (opaque_in w)
   pub content : content_in v ≡ content_in w
@@ -42,8 +41,8 @@ pub record HaveTheSame (v w : MessageValue) : Type 0 where
       → count_by (same_covered x) (covers_in v detached)
       ≡ count_by (same_covered x) (covers_in w detached)
 
---- `KeepsReceived b o`: `b` spells a message, and `o` is DER of one; these `HaveTheSame`, and what
----   is in `opaque_in` is part of `b` and of `o` [ours]
+--- `KeepsReceived b o`: `b` spells a message, and `o` is DER of one; these `HaveTheSame` [ours]
+--- | each list in `opaque_in` is part of `b` and of `o`
 pub record KeepsReceived (b o : List ℕ) : Type 0 where
   pub read : MessageValue
   pub spells : whole_message ber b read

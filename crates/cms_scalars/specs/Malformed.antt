@@ -12,8 +12,7 @@ use Rattle.cms_scalars.specs.Booleans.{truth}
 use Rattle.cms_scalars.specs.Bits.{IsNamedBits}
 use Rattle.cms_scalars.specs.ObjectIdentifiers.{id_signed_data}
 
---- `EndInElement octets id P`: the last of the octets are an element with the identifier octet `id`
----   and contents with `P` [X.690, 8.1.1]
+--- `EndInElement octets id P`: they end in an element `id` whose contents have `P` [X.690, 8.1.1]
 pub record EndInElement (octets : List ℕ) (id : ℕ) (P : List ℕ → Type 0) : Type 0 where
   pub before : List ℕ
   pub element : List ℕ
@@ -22,8 +21,7 @@ pub record EndInElement (octets : List ℕ) (id : ℕ) (P : List ℕ → Type 0)
   pub is_element : IsElement element id contents
   pub says : P contents
 
---- `EndInContentType octets P`: the last of them are the header of a SEQUENCE (30), and then an
----   OBJECT IDENTIFIER whose contents have `P`: the content type of a ContentInfo [RFC 5652, 3]
+--- `EndInContentType octets P`: they end in a header of 30, and a 06 with `P` [RFC 5652, 3]
 pub record EndInContentType (octets : List ℕ) (P : List ℕ → Type 0) : Type 0 where
   pub before : List ℕ
   pub header : List ℕ
@@ -34,10 +32,9 @@ pub record EndInContentType (octets : List ℕ) (P : List ℕ → Type 0) : Type
   pub is_element : IsElement element 0x06 contents
   pub says : P contents
 
---- `IsMalformed reason octets`: the octets end in an element whose contents are no INTEGER at E8, no
----   OBJECT IDENTIFIER at E9, no BOOLEAN at E10, and no BIT STRING at E11
----   [X.690, 8.3, 8.19, 8.2, 8.6];
---- | in a content type that is not id-signedData at E17; and in no octets at any other reason
+--- `IsMalformed reason octets`: what the octets end in; any other reason is for none:
+--- | E8 to E11: an element whose contents are no INTEGER, OBJECT IDENTIFIER, BOOLEAN or BIT STRING
+--- | E17: a content type that is not id-signedData [RFC 5652, 3]
 abbrev pub IsMalformed : Reason → List ℕ → Type 0
 IsMalformed IntegerMalformed octets = EndInElement octets 0x02 (λ c. IsInteger c → ⊥)
 IsMalformed OidMalformed octets = EndInElement octets 0x06 (λ c. IsObjectIdentifier c → ⊥)

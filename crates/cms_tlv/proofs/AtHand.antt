@@ -5,7 +5,7 @@ use Rattle.std.proofs.lemmas.List.{append-nil, take_all, take-take, length-take,
 use Rattle.std.proofs.Math.Seq.{take-append_seam}
 use Rattle.cms_tlv.specs.Opaque.{HasItsForm, IsFramed, primitive, constructed, AreFramed, none, more}
 use Rattle.cms_tlv.specs.internal.Whole.{AreWhole, HasWhole, HasHeader, begins_value}
-use Rattle.cms_tlv.specs.internal.Found.{IsHeader, IsPrimitive, IsWhole}
+use Rattle.cms_tlv.specs.internal.Found.{IsFoundHeader, IsPrimitive, IsWhole}
 use Rattle.cms_tlv.proofs.Inverse.{leb_yes, eqb_yes, and_both, and_first, and_second}
 use Rattle.cms_tlv.proofs.OpaqueReads.{form_sound}
 use Rattle.cms_tlv.specs.Reading.{has_its_form}
@@ -137,7 +137,7 @@ length_octets : {xs rest : List ℕ} {len : ℕ} (b : BeginsWithLength xs len re
 length_octets {rest = rest} b = ap length b.parts ∙ length-append b.sizes rest
 
 pub header_found : (room i len : ℕ) (xs rest : List ℕ) → BeginsWithLength xs len rest → i < 256 → i % 32 ≢ 31
-    → length xs - length rest < room → len ≤ room - (length xs - length rest) - 1 → IsHeader room (i ∷ take (length xs - length rest) xs) i len
+    → length xs - length rest < room → len ≤ room - (length xs - length rest) - 1 → IsFoundHeader room (i ∷ take (length xs - length rest) xs) i len
 header_found room i len xs rest b o k l m =
     let n : length xs - length rest ≡ length b.sizes = omega (arith, length_octets b) in
     let t : take (length xs - length rest) xs ≡ b.sizes = ap (λ j. take j xs) n ∙ ap (take (length b.sizes)) b.parts ∙ take-append_seam b.sizes rest in

@@ -6,7 +6,7 @@ use Rattle.cms_tlv.specs.declared.bound.Bound.{Bound}
 use Rattle.cms_tlv.specs.declared.fault.Fault.{Fault}
 use Rattle.cms_tlv.specs.declared.fault.Fault.TheVariants as faults
 use Rattle.cms_tlv.specs.Clauses.{Room}
-use Rattle.cms_tlv.specs.internal.Found.{Heads, found_at_hand, IsHeader, IsPrimitive, IsWhole, TakesFound, WantsMemory, HasHeaderOf, HasPrimitiveOf, HasElementOf}
+use Rattle.cms_tlv.specs.internal.Found.{Heads, found_at_hand, IsFoundHeader, IsPrimitive, IsWhole, TakesFound, WantsMemory, HasHeaderOf, HasPrimitiveOf, HasElementOf}
 use Rattle.cms_tlv.specs.State.{State, as_list}
 use Rattle.cms_tlv.specs.Reading.{Reader, expected_of, framed_of, primitive_of}
 use Rattle.cms_tlv.specs.Spans.{octets_in}
@@ -81,7 +81,7 @@ module _ {P : List ℕ → Type 0} {a b : State} (t : TakesFound P a b) where
 abbrev pub RoomFor : Bound → State → ℕ → Type 0
 RoomFor bd s room = (n : ℕ) → 0 < n → n ≤ room → Room bd.end s.limit (length s.done) n
 
-pub header_gave : (bd : Bound) (room ident len : ℕ) {a b : State} → TakesFound (λ o. IsHeader room o ident len) a b → a.fault ≡ None
+pub header_gave : (bd : Bound) (room ident len : ℕ) {a b : State} → TakesFound (λ o. IsFoundHeader room o ident len) a b → a.fault ≡ None
     → RoomFor bd a room → HasHeaderOf bd a b (sized bd (length b.done) ident len true)
 header_gave bd room ident len {a = a} {b = b} t n r =
     let h = t.found in

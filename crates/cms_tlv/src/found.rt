@@ -4,7 +4,7 @@
 //! strictness is in the way. Anything else is read octet by octet, which finds the refusal and its
 //! place; so no public contract speaks of what is found.
 ghost use Rattle.std.specs.Prelude.{◌≡◌, ℕ, ◌≤◌, ◌∷◌, List, IfSome, length, take};
-ghost use Rattle.cms_tlv.specs.internal.Found.{IsHeader, IsPrimitive, IsWhole};
+ghost use Rattle.cms_tlv.specs.internal.Found.{IsFoundHeader, IsPrimitive, IsWhole};
 
 use crate::opaque::{MAX_LEVELS, is_constructed};
 use crate::source::PIECE;
@@ -41,7 +41,7 @@ pub(crate) struct HeaderIn {
 }
 
 impl Seek for HeaderIn {
-    ghost finds = { λ s b i n. IsHeader s.room b i n };
+    ghost finds = { λ s b i n. IsFoundHeader s.room b i n };
 
     fn find(&self, first: u8, octets: &[u8]) -> Option<Found> {
         if first % 32 == 31 {

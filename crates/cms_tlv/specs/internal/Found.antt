@@ -27,7 +27,7 @@ found_at_hand (Some octet) n held = take n held
 
 -- the octets are a header, whose identifier is one octet and whose length is the shortest, and room
 -- is left for the contents
-pub record IsHeader (room : ℕ) (octets : List ℕ) (ident len : ℕ) : Type 0 where
+pub record IsFoundHeader (room : ℕ) (octets : List ℕ) (ident len : ℕ) : Type 0 where
   pub sizes : List ℕ
   pub parts : octets ≡ ident ∷ sizes
   pub is_identifier : IsIdentifier ident (ident ∷ [])
