@@ -338,11 +338,11 @@ Take any two inputs in memory. If `both` returns two lists of octets, then of ea
 - **`der_of_a`, `der_of_b`**: the whole input spells a message in BER, and what is written is DER of a message that is the same. The input
   has at most 2^24 octets, and so has the DER of its message.
 - **`same`**: the two lists are equal if and only if there is a message that both inputs denote.
-- **`kept`**: the content is the same, and so is the imprint that a request or a token is about; each signature and countersignature
-  covers the same octets, whatever detached content is given; and signed attributes, certificates, attribute values and everything else
-  that is opaque lie in what is written as they lie in the input, octet for octet, and each as often.
-- **`again`**: if what is written is read again, whatever follows it, then just these octets are read, and they are written again
-  unchanged. They are refused only if something follows and nothing may.
+- **`kept`**: the content is the same; each signature and countersignature covers the same octets, whatever detached content is given; and
+  signed attributes, certificates, attribute values and everything else that is opaque lie in what is written as they lie in the input,
+  octet for octet, and each as often.
+- **`again`**: what is written is accepted, and is written again unchanged; and whatever follows it, no other octets with which the whole
+  begins spell a message.
 
 If `written_or_refused` refuses an input (`refused`), then one of these is true of the octets that the refusal counts:
 
@@ -351,10 +351,19 @@ If `written_or_refused` refuses an input (`refused`), then one of these is true 
 - it is E2: they are a message whose DER has more than 2^24 octets;
 - it is E18: they are a message, and one octet that follows it.
 
-In the first two cases these octets also say why (`SayWhy`): with E2 they are 2^24 many, or end in a length that passes 2^24; with E3, E4 and
-E5 they end in FF, in one of 89 to FE, or in 80 after the identifier of a primitive element, as the first octet of a length; with E8 to E11
-they end in contents that are no INTEGER, OBJECT IDENTIFIER, BOOLEAN or BIT STRING, and with E17 in another content type than signed data;
-and it is not E18.
+In the first two cases these octets also say why (`SayWhy`):
+
+- with E2 they are 2^24 many, or end in a header whose length passes 2^24;
+- with E3, E4 and E5 they end in identifier octets and one length octet: FF, one of 89 to FE, or 80 if the identifier is primitive;
+- with E8 to E11 they end in an element with the identifier octet and the length of an INTEGER, OBJECT IDENTIFIER, BOOLEAN or BIT STRING,
+  whose contents are none;
+- with E17 they end in the header of a SEQUENCE and an OBJECT IDENTIFIER that is not id-signedData;
+- with E1, E6, E7, E12 to E16 and E19 they need not say why, and it is not E18.
+
+`SayWhy` does not say where in the message that header or element begins: any octets may come before it. Nor does this page say that the
+refusal is the first one that reading from left to right comes to. Both are fixed by another clause of `read_message`, `refines`, which names
+the pure readers. That the imprint which a request or a token is about is kept too is a law of its own
+(`same_messages_have_the_same_covers`, clause `imprint`).
 
 The only other fault that it returns is that memory ran out. That there is enough memory is not promised.
 """
