@@ -298,6 +298,7 @@ def filled(text: str, region: Region) -> str:
 NUMBERED = (
     *("c/cms_canon.h", "crates/cms_c/src/outcome.rt", "java/src/cmscanon/CmsCanon.java", "python/README.md", "python/cms_canon/__init__.py"),
     *("python/cms_canon/_calls.py", "rust/cms-canon/src/check.rs", "rust/cms-canon/src/error.rs", "man/cms-canon.1", "docs/USING.md"),
+    HELP,
 )
 
 

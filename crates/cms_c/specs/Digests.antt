@@ -1,6 +1,6 @@
 -- What the calls by digests promise.
-use Rattle.std.specs.Prelude.{◌≡◌, ◌≢◌, ◌⊎◌, ℕ, List, [], ◌∷◌, ◌++◌, map, take, Option, Some, None, ◌==◌}
-use Rattle.std.specs.Prelude.{true, false, option_to_list, if◌then◌else◌}
+use Rattle.std.specs.Prelude.{◌≡◌, ◌≢◌, ◌⊎◌, ◌==◌, ℕ, List, [], ◌∷◌, ◌++◌, map, take, Option}
+use Rattle.std.specs.Prelude.{Some, None, true, false, option_to_list, if◌then◌else◌}
 use Rattle.std.specs.List.{Contains, find}
 use Rattle.cms_tlv.specs.declared.fault.Fault.TheVariants as faults
 use Rattle.cms_tsp.specs.TstInfo.{TstInfo, IsTstInfoOf}
@@ -120,7 +120,8 @@ abbrev pub LacksForFindings : MessageValue → Option (List Digest) → Option (
 LacksForFindings v content stamped (lacks.Fault faults.OutOfMemory) = Unit {0}
 LacksForFindings v content stamped l =
     IfGiven (λ given. LacksForContent v given l) content
-    ⊎ ((content ≢ None → needs_content v ≡ false) × IfGiven (λ given. LacksForData v given l) stamped)
+    ⊎ ((content ≢ None → needs_content v ≡ false)
+    × IfGiven (λ given. LacksForData v given l) stamped)
 
 --- `AreFoundByDigests v content stamped items`: for whatever content and data have the digests that
 ---   are given, the items are the findings of the message

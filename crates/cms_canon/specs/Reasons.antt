@@ -19,7 +19,7 @@ pub record EndInHeader (octets : List ℕ) (P : ℕ → List ℕ → Type 0) : T
   pub says : P first sizes
 
 --- `SayWhy limit reason octets`: what a refusal says of the octets taken:
---- | E2: they are at least `limit` many, or end in the length of contents that pass the limit [ours]
+--- | E2: they are at least `limit` many, or end in a header whose contents pass the limit [ours]
 --- | E3: they end in the length octet FF [X.690, 8.1.3.5]
 --- | E4: they end in a first length octet from 89 to FE [ours]
 --- | E5: they end in the length octet 80 of a primitive element [X.690, 8.1.3.2]

@@ -10,10 +10,9 @@ use Rattle.cms_canon.specs.Streams.{Reading, Takes, TakesAtMost, HasEnded, DidNo
 abbrev pub IsRest : Reading → ℕ → List ℕ → Type 0
 IsRest r limit octets = Takes r octets × HasEnded r × (length octets ≤ limit) × DidNotFail r
 
---- `RestFaults r limit f`: E2: one octet more than `limit` was taken, and `f` gives that number; the
+--- `RestFaults r limit f`: E2: one octet more than `limit` was taken, `f` says how many, and the
 ---   reader did not fail
---- | `Read` comes if the reader failed, and `OutOfMemory` if it did not; at both, at most `limit`
----   octets were taken
+--- | `Read` comes if the reader failed, `OutOfMemory` if not; at both, at most `limit` were taken
 abbrev pub RestFaults : Reading → ℕ → Fault → Type 0
 RestFaults r limit (faults.Refused reason at) =
     (reason ≡ TooLarge) × (at ≡ limit + 1) × DidNotFail r

@@ -225,10 +225,13 @@ pub(crate) const CHECK: Help = Help {
     usage: "cms-canon check [--content | --data] < MESSAGE",
     about: "Say which rules of the standards the message breaks",
     more: "\
-The rules are those of RFC 5652, RFC 3161 and RFC 5035 that can be checked
-without a key. There is a line for each finding: its number, the signer that it
-is about, if any, and what is found. Signers are numbered in the order read,
-from 0. If nothing is found, the line is `no findings`.
+The rules are the findings F1 to F19 below, most of them of RFC 5652, RFC 3161
+and RFC 5035. No other rule of these standards is checked: nothing is said, for
+example, of a signing-time among unsigned attributes, of a countersignature, of
+what a certificate says, or of whether the nonce of a response is that of its
+request. There is a line for each finding: its number, the signer that it is
+about, if any, and what is found. Signers are numbered in the order read, from
+0. If nothing is found, the line is `no findings`.
   F9 no content
   F7 signer 0 message digest differs
 

@@ -128,8 +128,8 @@ pub record HeaderTaken (old new : State) (P : ℕ → List ℕ → Type 0) : Typ
   pub is_identifier : IsIdentifier first identifier
   pub says : P first sizes
 
---- `Tied old new f`: of a refusal: no octets have to say why, or since `old` a header was taken that
----   says why, and nothing else
+--- `Tied old new f`: of a refusal: no octets have to say why, or since `old` a header was taken
+---   that says why, and nothing else
 abbrev pub Tied : State → State → Fault → Type 0
 Tied old new (faults.Refused reason at) =
     NeedsNoOctets old.limit (length new.done) reason
