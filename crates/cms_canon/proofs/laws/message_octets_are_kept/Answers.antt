@@ -8,7 +8,7 @@ returns c b o v w r s e =
     let parts =
     λ (m : Rules). message_parts m (c.received_octets_are_kept.ensures.lie m) (c.request_octets_are_kept.ensures.lie m)
     (c.response_octets_are_kept.ensures.lie m) in
-    let kept = c.same_messages_have_the_same_covers.ensures ber der b o v w r s e in
+    let kept = c.same_messages_have_the_same_covers.ensures.same ber der b o v w r s e in
     record {
       read = v;
       spells = r;
