@@ -330,8 +330,10 @@ a definition of this page, something that the kit or the code declares, or a var
 
 ## In words
 
-A message is a ContentInfo that holds SignedData (RFC 5652), or a TimeStampReq or a TimeStampResp (RFC 3161). Two are the same if they differ
-at most in the order of the members of sets (`same_message`), and an input denotes a message if it spells one that is the same.
+A message is a ContentInfo that holds SignedData (RFC 5652), or a TimeStampReq or a TimeStampResp (RFC 3161), as sections 3 to 7 have them: what
+is opaque is framed as there, signed attributes are in DER, strings have at most eight levels of segments, and countersignatures four. Two are
+the same if they differ at most in the order of the members of sets (`same_message`). An input denotes a message if it spells one that is the
+same, and neither it nor the DER of that has more than 2^24 octets.
 
 Take any two inputs in memory. If `both` returns two lists of octets, then of each input and what is written for it:
 
@@ -339,33 +341,37 @@ Take any two inputs in memory. If `both` returns two lists of octets, then of ea
   has at most 2^24 octets, and so has the DER of its message.
 - **`same`**: the two lists are equal if and only if there is a message that both inputs denote.
 - **`kept`**: the content is the same; each signature and countersignature covers the same octets, whatever detached content is given; and
-  signed attributes, certificates, attribute values and everything else that is opaque lie in what is written as they lie in the input,
-  octet for octet, and each as often.
-- **`again`**: what is written is accepted, and is written again unchanged; and whatever follows it, no other octets with which the whole
-  begins spell a message.
+  signed attributes, certificates, attribute values but countersignatures, and everything else that is opaque lie in what is written as they
+  lie in the input, octet for octet, and each as often.
+- **`again`**: what is written is accepted, and is written again unchanged; and if octets follow it, it is the only beginning of the whole that
+  spells a message.
 
-If `written_or_refused` refuses an input (`refused`), then one of these is true of the octets that the refusal counts:
+What `written_or_refused` writes is DER as above (`der`). If it refuses an input (`refused`), then one of these is true of the octets that the
+refusal counts:
 
 - they are hopeless: no list of octets that begins with them begins with a message of at most 2^24 octets;
-- it is E1: they are the whole input, and a proper prefix of a frame;
-- it is E2: they are a message whose DER has more than 2^24 octets;
-- it is E18: they are a message, and one octet that follows it.
+- it is E1: they are the whole input, fewer than 2^24, and a proper prefix of a frame, which need not be the beginning of a message;
+- it is E2: they are a message of at most 2^24 octets, whose DER has more;
+- it is E18: they are a message, which has at most 2^24 octets as its DER has, and one octet that follows it.
 
-In the first two cases these octets also say why (`SayWhy`):
+If they are hopeless, they also say why (`SayWhy`), and it is not E18:
 
 - with E2 they are 2^24 many, or end in a header whose length passes 2^24;
-- with E3, E4 and E5 they end in identifier octets and one length octet: FF, one of 89 to FE, or 80 if the identifier is primitive;
-- with E8 to E11 they end in an element with the identifier octet and the length of an INTEGER, OBJECT IDENTIFIER, BOOLEAN or BIT STRING,
-  whose contents are none;
-- with E17 they end in the header of a SEQUENCE and an OBJECT IDENTIFIER that is not id-signedData;
-- with E1, E6, E7, E12 to E16 and E19 they need not say why, and it is not E18.
+- with E3, E4 and E5 they end in identifier octets and one length octet: FF; one of 89 to FE; or 80, if the identifier is primitive;
+- with E8, E9, E10 and E11 they end in an element 02, 06, 01 or 03, whose contents are not those of an INTEGER, OBJECT IDENTIFIER, BOOLEAN or
+  BIT STRING, respectively;
+- with E17 they end in a header with the identifier octet 30, and an element 06 whose contents are not those of id-signedData;
+- with E6, E7, E12 to E16 and E19 nothing more is said of them.
 
-`SayWhy` does not say where in the message that header or element begins: any octets may come before it. Nor does this page say that the
-refusal is the first one that reading from left to right comes to. Both are fixed by another clause of `read_message`, `refines`, which names
-the pure readers. That the imprint which a request or a token is about is kept too is a law of its own
-(`same_messages_have_the_same_covers`, clause `imprint`).
+`SayWhy` does not say where in the message that header or element begins, nor that the reader takes it for one: any octets may come before it.
+So it excludes a wrong reason only if the octets do not happen to end so: `30 04 04 02 02 00` ends in a malformed INTEGER, though no INTEGER is
+due there. Nor does this page say that the refusal is the first one that reading from left to right comes to. Both are fixed by another
+clause of `read_message`, `refines`, which names the pure readers.
 
-The only other fault that it returns is that memory ran out. That there is enough memory is not promised.
+`written_or_refused` returns no other fault but `OutOfMemory`. No clause says when: a `both` that always returns none, and a `written_or_refused`
+that always says that memory ran out, would meet these contracts.
+
+That the imprint which a request or a token is about is kept too is a law of its own (`same_messages_have_the_same_covers`, clause `imprint`).
 """
 
 READING = """## How to read on
