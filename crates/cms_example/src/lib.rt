@@ -50,13 +50,13 @@ use cms_tlv::{Fault, Slice, Watched};
 pub use sketches::{breaks, content_info_in_der};
 use std::alloc::Global;
 
-/// What two inputs in memory are written as. Each is a message of at most 16 MiB; none if one of them is
-/// not, or if memory runs out.
+/// What two inputs in memory are written as, if each is a message of at most 16 MiB; else none. If memory
+/// runs out, it is none too: no clause says when that is.
 ///
 /// What is written for each is DER of a message that is the same. The octets are equal if and only if
 /// there is a message that both inputs denote, with sets taken as multisets. The content, what
 /// signatures cover and everything else that is opaque are kept. What is written is accepted, and is
-/// written again unchanged; and whatever follows it, no other octets with which the whole begins are a
+/// written again unchanged; and if octets follow it, no others with which the whole begins are a
 /// message.
 pub fn both(alloc: Global, a: &[u8], b: &[u8]) -> Option<(Vec<u8>, Vec<u8>)>
     ensures der_of_a { IfSome result (λ p. IsWrittenFor whole_message same_message
