@@ -36,7 +36,7 @@
 
 mod sketches;
 
-ghost use Rattle.std.specs.Prelude.{◌≡◌, ◌^◌, ◌↔◌, ℕ, List, Some, IfSome, IfOk, IfErr, IsTrue};
+ghost use Rattle.std.specs.Prelude.{◌≡◌, ◌^◌, ◌↔◌, IfSome, IfOk, IfErr, IsTrue};
 ghost use Rattle.cms_canon.specs.Denotes.{Denotes, IsReadAlone, IsWrittenFor};
 ghost use Rattle.cms_canon.specs.Kinds.{MessageValue, whole_message, same_message};
 ghost use Rattle.cms_canon.specs.Messages.{FaultOf};
