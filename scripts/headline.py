@@ -187,10 +187,10 @@ def text_without_clauses(definition: Definition, constructor: str) -> List[str]:
 
 
 def text_without_constructor(definition: Definition, constructor: str) -> List[str]:
-    """Returns the lines of a data type with `..` in place of a constructor, and without the row of its comment that is about it."""
+    """Returns the lines of a data type without a constructor, and without the row of its comment that is about it."""
     text = "\n".join(definition.lines)
     text = re.sub(rf"^ *--- \| `{constructor}`.*\n(?: *---   .*\n)*", "", text, flags=re.M)
-    return re.sub(rf"^((?: *\w+)* *)\b{constructor}\b(?=.*:)", r"\1..", text, flags=re.M).split("\n")
+    return re.sub(rf"^((?: *\w+)*) \b{constructor}\b(?=.*:)", r"\1", text, flags=re.M).split("\n")
 
 
 def ranges_over(nodes: Tree, kind: str) -> bool:
@@ -381,9 +381,15 @@ them. They rest on the types of the code, which come first, and on definitions o
 
 A **grammar** says in its rows how a value is spelled, which values are the same, and more that serves reading. The contracts read only its
 rows {read}, and no definition here projects another one. So the other rows are left out, and `..` is in their place.
-What is only handed to them is not read either, and is not here:
+What is handed to those rows alone is not read either:
 {handed}.
+A name in brackets after what a grammar is, as [`Tagged`], is the type of the code that reads and writes by it.
 {rules}
+
+Notation: `(x : A) × B` is a pair whose second part may speak of the first one; `.0` and `.1`, or a name, is a part of a value;
+`record g {{ .. }}` is `g` with other rows; `abbrev` defines a name by what it stands for; `◌` is the place of an operand. Of the kit,
+`IfSome`, `IfOk` and `IfErr` say nothing in the other case, `slice_index` is 0 past the end of a list, and `AllZip` says that two lists are
+equally long.
 """
 
 OTHER_RULES = """
@@ -505,7 +511,7 @@ def declared_in(name: str) -> Tuple[Path, str]:
 def types_of(statement: Statement) -> Iterator[str]:
     """Yields the types that the code declares, as the code has them."""
     names = [it for found in statement.uses.values() for it in found if isinstance(it, str) and ".declared." in it]
-    for file, name in dict.fromkeys(declared_in(it) for it in names):
+    for file, name in reversed(dict.fromkeys(declared_in(it) for it in names)):
         if not (TOP / file).exists():
             continue  # of the kit
         found = re.search(rf"^((?:///.*\n)*)(?:#\[.*\n)*(pub (?:enum|struct) {name}\b(?:.*\n)+?}})", (TOP / file).read_text(), re.M)
