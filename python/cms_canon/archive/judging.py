@@ -140,12 +140,20 @@ def _certificate(octets: bytes) -> Optional[_Certificate]:
     return _short_certificate(octets) if len(octets) <= SHORT else _read_certificate(octets)
 
 
+def _key_identifier(certificate: verifier._Certificate) -> Optional[bytes]:
+    """Returns the key identifier of a certificate; None if there is none in DER."""
+    try:
+        return certificate.subject_key_identifier
+    except ValueError:
+        return None
+
+
 def _read_certificate(octets: bytes) -> Optional[_Certificate]:
     try:
         known = verifier._certificate(octets)
-        found = _Certificate(known.issuer, known.serial_number, known.subject_key_identifier)
     except ValueError:
         return None
+    found = _Certificate(known.issuer, known.serial_number, _key_identifier(known))
     try:
         with warnings.catch_warnings():
             warnings.simplefilter("ignore")  # of what a certificate should not have
