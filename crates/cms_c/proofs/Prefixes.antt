@@ -1,5 +1,5 @@
 -- Messages that were read from memory, and written to it.
-use Rattle.std.proofs.Common.{◌≡◌, inl, inr, ℕ, ◌+◌, ◌-◌, List, [], ◌++◌, length, length-append, Option, Some, None, subst, ap, sym, ◌∙◌, arith}
+use Rattle.std.proofs.Common.{◌≡◌, inl, inr, ℕ, ◌+◌, ◌-◌, List, [], ◌++◌, length, length-append, Option, Some, None, refl, subst, ap, sym, ◌∙◌, arith}
 use Rattle.std.specs.Io.KnownBytes.{Consumes}
 use Rattle.cms_tlv.specs.declared.fault.Fault.TheVariants as faults
 use Rattle.cms_tlv.specs.declared.fault.Reason.{Reason}
@@ -32,7 +32,7 @@ next_refused input left limit cs reason at (Some rest) failures taken (refused, 
       octets = refused.octets;
       taken = refused.taken;
       place = refused.place;
-      unfailed = refused.unfailed;
+      unfailed = refl;
       refusal = refused.refusal;
     },
     record { octets = first.octets; taken = first.taken; place = first.place; first = first.first },
