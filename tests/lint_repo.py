@@ -14,6 +14,7 @@ import json
 import re
 import subprocess
 import sys
+import tomllib
 from pathlib import Path
 
 from tally import Tally
@@ -21,7 +22,9 @@ from tally import Tally
 TOP = Path(__file__).resolve().parent.parent
 sys.path.insert(0, str(TOP / "scripts"))
 
+from antt import definitions_of  # noqa: E402
 from calls import SYMBOLS, calls  # noqa: E402
+from clauses import record_of  # noqa: E402
 from definitions import half_said, misplaced  # noqa: E402
 
 DEFINITIONS = (TOP / "docs" / "DEFINITIONS.md").read_text()
@@ -375,6 +378,34 @@ def complaints_of_internal_definitions():
         for number, line in clauses_of_public_functions(lines):
             for name in sorted(names & set(re.findall(r"\w+", line))):
                 yield f"{file.relative_to(TOP)}:{number}: {name}"
+
+
+def records_that_say_something(whole):
+    """Returns the fields of each record of the headline, and of the definitions of whole crates but for internal ones, by crate and name."""
+    page = set(re.findall(r"^pub record (\w+)", (TOP / "docs" / "HEADLINE.md").read_text(), re.M))
+    found = {}
+    for file in sorted(TOP.glob("crates/*/specs/*.antt")):
+        crate = file.relative_to(TOP).parts[1]
+        for it in definitions_of(f"Rattle.{crate}.specs.{file.stem}", file):
+            if it.words[0] == "record" and (crate in whole or it.name in page):
+                found[f"{crate}.{it.name}"] = {field.name for field in record_of(it).fields}
+    return found
+
+
+def complaints_of_fields_that_may_say_nothing():
+    """Yields each record and field for which tests/data/clauses.toml has no line, each for which it has one and that is gone, and each line
+    without words."""
+    table = tomllib.loads((TOP / "tests" / "data" / "clauses.toml").read_text())
+    fields = records_that_say_something(table.pop("whole"))
+    said = {f"{crate}.{name}": lines for crate, records in table.items() for name, lines in records.items()}
+    yield from (f"clauses.toml: {name} has no table" for name in sorted(fields.keys() - said.keys()))
+    yield from (f"clauses.toml: there is no record {name} that it has to have" for name in sorted(said.keys() - fields.keys()))
+    for name in sorted(fields.keys() & said.keys()):
+        values = set(said[name].pop("values", []))
+        yield from (f"clauses.toml: {name}.{it} has no line" for it in sorted(fields[name] - said[name].keys() - values))
+        yield from (f"clauses.toml: {name} has no field {it}" for it in sorted((said[name].keys() | values) - fields[name]))
+        yield from (f"clauses.toml: {name}.{it} is a value with a line" for it in sorted(said[name].keys() & values))
+        yield from (f"clauses.toml: {name}.{it} says nothing" for it, line in said[name].items() if not line.removeprefix("redundant:").strip())
 
 
 def main():
