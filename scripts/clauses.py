@@ -1,11 +1,11 @@
 #!/usr/bin/env python3
-"""Looks for clauses that say nothing: fields of records that follow from the other fields, and definitions that hold of anything.
+"""Looks for clauses that say nothing: fields of records that follow from the others, and definitions that hold of anything.
 
     python3 scripts/clauses.py CRATE[/FILE]..
 
-For each definition in the specs/ of a crate, but for `internal`, it writes lemmas into a copy of the crates, and lets the prover's tactics try
-them: of each field of a record, that it follows from the other fields; of a record, and of each clause of an `abbrev` into `Type 0`, that it
-holds of any arguments. Where values may be chosen, it tries [], 0, None and what is given of the same type; a statement that applies a
+For each definition in the specs/ of a crate, but for `internal`, it writes lemmas into a copy of the crates, and lets the prover's tactics
+try them: of each field of a record, that it follows from the other fields; of a record, and of each clause of an `abbrev` into `Type 0`, that
+it holds of any arguments. Where values may be chosen, it tries [], 0, None and what is given of the same type; a statement that applies a
 parameter, as `P contents`, may be assumed. It prints what was proved, and what it has no lemma for. That a tactic fails is no proof that
 something is excluded, so tests/data/clauses.toml says what shows it; tests/lint_repo.py asks for a line for each field of a record there.
 """
@@ -182,18 +182,21 @@ def put_in(text: str, chosen: Dict[str, str]) -> str:
     return text
 
 
-def made(record: Record, given: List[Field], arguments: Dict[str, str]) -> Iterator[Tuple[str, List[str]]]:
-    """Yields terms of a record, with values chosen from what is given, and the statements that are assumed for them."""
+def made(record: Record, given: List[Field], assume: bool) -> Iterator[Tuple[str, List[str]]]:
+    """Yields terms of a record, with values chosen from what is given, no list twice, and the statements that are assumed for them."""
     chosen = [it for it in record.fields if it.is_value]
     for values in product(*(values_of(it.type, given) for it in chosen)):
         known = {it.name: value for it, value in zip(chosen, values)}
+        lists = [value for it, value in zip(chosen, values) if it.type.startswith("List ") and value != "[]"]
+        if len(set(lists)) < len(lists):
+            continue
         assumed: List[str] = []
         parts = [f"{name} = {value}" for name, value in known.items()]
         for it in record.fields:
             if it.is_value:
                 continue
             term = TRIES
-            if record.assumed(it.type) and not arguments:
+            if assume and record.assumed(it.type):
                 term = f"assumed_{len(assumed)}"
                 assumed.append(put_in(it.type, known))
             parts.append(f"{it.name} = {term}")
@@ -205,7 +208,7 @@ def holds(record: Record) -> Iterator[Lemma]:
     if all(it.is_value for it in record.fields):
         return
     goal = " ".join([record.name, *(it.name for it in record.parameters if not it.is_implicit)])
-    for number, (term, assumed) in enumerate(islice(made(record, record.parameters, {}), MOST)):
+    for number, (term, assumed) in enumerate(islice(made(record, record.parameters, assume=True), MOST)):
         pairs = record.parameters + [Field(f"assumed_{at}", it) for at, it in enumerate(assumed)]
         name = f"any_{record.name}_{number}"
         left = " ".join([name, *(it.name for it in pairs)])
@@ -229,12 +232,12 @@ def terms(body: str, given: List[Field], records: Dict[str, Record]) -> Iterator
                 yield "inr (" * at + term + ")" * at
         return
     parts = split_at(body, "×") if len(split_at(body, "→")) == 1 else [body]
-    record = records.get(body.split()[0])
+    record = records.get(body.split()[0]) if "→" not in body else None
     if len(parts) > 1:
         choices = [choice for part in parts for choice in choices_of(part, given)]
-        yield from (f"({', '.join(it)})" for it in product(*choices))
+        yield from (f"({', '.join(it)})" for it in islice(product(*choices), MOST))
     elif record and any(it.is_value for it in record.fields):
-        yield from (term for term, _ in made(record, given, {"of": body}))
+        yield from (term for term, _ in islice(made(record, given, assume=False), MOST))
     else:
         yield TRIES
 
@@ -271,22 +274,63 @@ def clauses_of(definition: Definition) -> Tuple[List[str], List[Tuple[List[str],
     return kinds[:-1], found
 
 
-def cases(definition: Definition, records: Dict[str, Record], is_constructor: Callable[[str], bool]) -> Iterator[Lemma]:
-    """Yields the lemmas that a clause of an `abbrev` into `Type 0` holds of any arguments."""
+def is_statement(definition: Definition) -> bool:
+    """Returns whether a definition is an `abbrev` into `Type 0`."""
+    text = "\n".join(definition.lines[definition.above :])
+    head = re.split(rf"\n{re.escape(definition.name)} ", text)[0]
+    return head.startswith("abbrev") and bool(re.search(r": [^=]*→ Type 0$", head))
+
+
+def variants_of(library: Library, module: str) -> Dict[str, Tuple[str, List[str]]]:
+    """Returns the enums of the code that a module imports, if no variant has fields: the module of their variants, and the variants."""
+    read = library.module(module)
+    found: Dict[str, Tuple[str, List[str]]] = {}
+    for name, (path, _) in (read.uses if read else {}).items():
+        if ".declared." in path and path.startswith("Rattle.cms_"):
+            code = "".join(it.read_text() for it in (TOP / "crates" / path.split(".")[1] / "src").glob("*.rt"))
+            enum = re.search(rf"^pub enum {name} {{\n(.*?)^}}", code, re.M | re.S)
+            lines = [it.strip() for it in enum[1].splitlines()] if enum else []
+            lines = [it for it in lines if not it.startswith(("//", "#"))]
+            if lines and all(re.fullmatch(r"\w+(?: = \d+)?,", it) for it in lines):
+                found[name] = f"{path}.TheVariants", [re.match(r"\w+", it)[0] for it in lines]
+    return found
+
+
+@dataclass
+class Context:
+    """What the lemmas about clauses need to know of a module."""
+
+    records: Dict[str, Record]
+    variants: Dict[str, Tuple[str, List[str]]]
+    is_constructor: Callable[[str], bool]
+
+    def chosen(self, given: List[Field], body: str) -> Iterator[Dict[str, str]]:
+        """Yields variants to put in place of a variable that a clause names: none, and each of one variable."""
+        yield {}
+        for it in given:
+            if it.type in self.variants and re.search(rf"(?<![\w.]){it.name}(?![\w'])", body):
+                yield from ({it.name: f"of_{it.type}.{variant}"} for variant in self.variants[it.type][1])
+
+
+def cases(definition: Definition, context: Context) -> Iterator[Lemma]:
+    """Yields the lemmas that a clause of an `abbrev` into `Type 0` holds of any arguments, and with each variant of one of them."""
     kinds, found = clauses_of(definition)
     implicit = [it for kind in kinds if kind.startswith("{") for it in split_parameters(kind)]
     explicit = [it for it in kinds if not it.startswith("{")]
     for number, (patterns, body) in enumerate(found):
         if len(patterns) != len(explicit) or body == "⊥":
             continue
-        known = variables(patterns, explicit, is_constructor)
-        given = [it for it in known if it.type != "_" or re.search(rf"(?<![\w.]){it.name}(?![\w'])", body)]
-        pairs = [Field(it.name, it.type) for it in implicit] + given
-        for choice, term in enumerate(islice(terms(body, given, records), MOST)):
-            name = f"any_{definition.name}_{number}_{choice}"
-            own = " ".join([name, *(it.name for it in pairs)])
-            says = f"{' '.join([definition.name, *patterns])} holds of anything, by {shown(term)}"
-            yield Lemma(says, name, f"{name} : {arrow(pairs)}{body}\n{own} = {term}\n")
+        known = [*variables(patterns, explicit, context.is_constructor)]
+        known = [it for it in known if it.type != "_" or re.search(rf"(?<![\w.]){it.name}(?![\w'])", body)]
+        for at, chosen in enumerate(context.chosen(known, body)):
+            given = [it for it in known if it.name not in chosen]
+            pairs = [Field(it.name, it.type) for it in implicit] + given
+            left = " ".join([definition.name, *(chosen.get(it, it) for it in patterns)])
+            goal = put_in(body, chosen)
+            for choice, term in enumerate(terms(goal, given, context.records)):
+                name = f"any_{definition.name}_{number}_{at}_{choice}"
+                own = " ".join([name, *(it.name for it in pairs)])
+                yield Lemma(f"{left} holds of anything, by {shown(term)}", name, f"{name} : {arrow(pairs)}{goal}\n{own} = {term}\n")
 
 
 def lemmas_of(file: Path, crate: str, library: Library, outcome: Outcome) -> Iterator[Lemma]:
@@ -294,6 +338,8 @@ def lemmas_of(file: Path, crate: str, library: Library, outcome: Outcome) -> Ite
     module = f"Rattle.{crate}.specs.{file.stem}"
     found = [*definitions_of(module, file)]
     records = {it.name: record_of(it, library) for it in found if it.words[0] == "record"}
+    every = {**imported_records(module, library), **records}
+    context = Context(every, variants_of(library, module), lambda word: names_constructor(library, module, word))
     for it in found:
         text = "\n".join(it.lines[it.above :])
         if it.around:
@@ -305,12 +351,11 @@ def lemmas_of(file: Path, crate: str, library: Library, outcome: Outcome) -> Ite
                 outcome.skipped.append(f"{it.name}: " + ("its fields are values" if values else "it is of no `Type 0`"))
             else:
                 yield from of_it
-        elif it.lines[it.above].startswith("abbrev") and re.search(r": [^=]*→ Type 0$", re.split(rf"\n{re.escape(it.name)} ", text)[0]):
+        elif is_statement(it):
             if "\n  where" in text:
                 outcome.skipped.append(f"{it.name}: it has a `where`")
             else:
-                imported = {name: one for name, one in imported_records(module, library).items() if name not in records}
-                yield from cases(it, {**imported, **records}, lambda word: names_constructor(library, module, word))
+                yield from cases(it, context)
 
 
 def names_constructor(library: Library, module: str, word: str) -> bool:
@@ -327,10 +372,12 @@ def imported_records(module: str, library: Library) -> Dict[str, Record]:
     return {name: record_of(it, library) for name, it in found.items() if isinstance(it, Definition) and it.words[0] == "record" and it.is_ours}
 
 
-def write_module(crate: Path, file: Path, lemmas: List[Lemma]) -> Dict[int, Lemma]:
+def write_module(crate: Path, file: Path, lemmas: List[Lemma], library: Library) -> Dict[int, Lemma]:
     """Writes a file of lemmas about a file of definitions, and returns which is at each of its lines."""
     own = ", ".join(it.name for it in definitions_of("", file) if "pub" in it.lines[it.above].split(it.name)[0] and not it.around)
     uses = "".join(it.removeprefix("pub ") + "\n" for it in file.read_text().splitlines() if re.match("(pub )?use ", it))
+    variants = variants_of(library, f"Rattle.{crate.name}.specs.{file.stem}")
+    uses += "".join(f"use {path} as of_{name}\n" for name, (path, _) in variants.items())
     text = IMPORTS + uses + (f"use Rattle.{crate.name}.specs.{file.stem}.{{{own}}}\n" if own else "")
     text += f"\nabbrev pub read_{file.stem} : Type 0\nread_{file.stem} = Unit {{0}}\n\n"
     at: Dict[int, Lemma] = {}
@@ -366,10 +413,10 @@ def errors_of(crate: Path) -> Iterator[Tuple[str, int, str]]:
             sys.exit(part)
 
 
-def prove(crate: Path, lemmas: Dict[str, List[Lemma]], outcome: Outcome) -> None:
+def prove(crate: Path, lemmas: Dict[str, List[Lemma]], library: Library, outcome: Outcome) -> None:
     """Leaves out the lemmas that the prover refuses until it refuses none, and notes why each was left out."""
     while any(lemmas.values()):
-        at = {name: write_module(crate, crate / "specs" / f"{name}.antt", of_it) for name, of_it in lemmas.items()}
+        at = {name: write_module(crate, crate / "specs" / f"{name}.antt", of_it, library) for name, of_it in lemmas.items()}
         write_probe(crate, [*lemmas])
         errors = [*errors_of(crate)]
         for name, line, message in errors:
@@ -390,7 +437,7 @@ def try_crate(crate: Path, only: str) -> Outcome:
     lemmas = {it.stem: [*lemmas_of(TOP / it.relative_to(crate.parent.parent), crate.name, library, outcome)] for it in files}
     lemmas = {name: of_it for name, of_it in lemmas.items() if of_it}
     outcome.tried = sum(map(len, lemmas.values()))
-    prove(crate, lemmas, outcome)
+    prove(crate, lemmas, library, outcome)
     return outcome
 
 

@@ -24,7 +24,7 @@ sys.path.insert(0, str(TOP / "scripts"))
 
 from antt import definitions_of  # noqa: E402
 from calls import SYMBOLS, calls  # noqa: E402
-from clauses import record_of  # noqa: E402
+from clauses import clauses_of, is_statement, record_of  # noqa: E402
 from definitions import half_said, misplaced  # noqa: E402
 
 DEFINITIONS = (TOP / "docs" / "DEFINITIONS.md").read_text()
@@ -380,32 +380,40 @@ def complaints_of_internal_definitions():
                 yield f"{file.relative_to(TOP)}:{number}: {name}"
 
 
-def records_that_say_something(whole):
-    """Returns the fields of each record of the headline, and of the definitions of whole crates but for internal ones, by crate and name."""
-    page = set(re.findall(r"^pub record (\w+)", (TOP / "docs" / "HEADLINE.md").read_text(), re.M))
-    found = {}
+def definitions_that_say_something(whole):
+    """Yields the crate and each definition on the page of the headline, or of the specs of whole crates, but for internal ones."""
+    page = set(DEFINITION.findall((TOP / "docs" / "HEADLINE.md").read_text()))
     for file in sorted(TOP.glob("crates/*/specs/*.antt")):
         crate = file.relative_to(TOP).parts[1]
-        for it in definitions_of(f"Rattle.{crate}.specs.{file.stem}", file):
-            if it.words[0] == "record" and (crate in whole or it.name in page):
-                found[f"{crate}.{it.name}"] = {field.name for field in record_of(it).fields}
-    return found
+        found = definitions_of(f"Rattle.{crate}.specs.{file.stem}", file)
+        yield from ((crate, it) for it in found if crate in whole or it.name in page)
+
+
+def complaints_between(lines, wanted, what):
+    """Yields each thing that is wanted and has no line, and each line for what is not there or without words."""
+    yield from (f"clauses.toml: {what} {it} has no line" for it in sorted(wanted - lines.keys()))
+    yield from (f"clauses.toml: there is no {what} {it} that it has to have" for it in sorted(lines.keys() - wanted))
+    yield from (f"clauses.toml: {what} {it} has no words" for it, line in lines.items() if not line or line == "redundant: ")
 
 
 def complaints_of_fields_that_may_say_nothing():
-    """Yields each record and field for which tests/data/clauses.toml has no line, each for which it has one and that is gone, and each line
-    without words."""
+    """Yields where tests/data/clauses.toml differs from the records of the headline and of whole crates, and from their clauses by cases."""
     table = tomllib.loads((TOP / "tests" / "data" / "clauses.toml").read_text())
-    fields = records_that_say_something(table.pop("whole"))
-    said = {f"{crate}.{name}": lines for crate, records in table.items() for name, lines in records.items()}
-    yield from (f"clauses.toml: {name} has no table" for name in sorted(fields.keys() - said.keys()))
-    yield from (f"clauses.toml: there is no record {name} that it has to have" for name in sorted(said.keys() - fields.keys()))
-    for name in sorted(fields.keys() & said.keys()):
-        values = set(said[name].pop("values", []))
-        yield from (f"clauses.toml: {name}.{it} has no line" for it in sorted(fields[name] - said[name].keys() - values))
-        yield from (f"clauses.toml: {name} has no field {it}" for it in sorted((said[name].keys() | values) - fields[name]))
-        yield from (f"clauses.toml: {name}.{it} is a value with a line" for it in sorted(said[name].keys() & values))
-        yield from (f"clauses.toml: {name}.{it} says nothing" for it, line in said[name].items() if not line.removeprefix("redundant:").strip())
+    fields, empty = {}, {}
+    for crate, it in definitions_that_say_something(table.pop("whole")):
+        if it.words[0] == "record":
+            fields[f"{crate}.{it.name}"] = {field.name for field in record_of(it).fields}
+        elif is_statement(it) and len(clauses := clauses_of(it)[1]) > 1:
+            empty[f"{crate}.{it.name}"] = {" ".join(patterns) for patterns, body in clauses if body in ("⊤", "Unit {0}")}
+    cases = {f"{crate}.{name}": lines for crate, some in table.pop("cases").items() for name, lines in some.items()}
+    records = {f"{crate}.{name}": lines for crate, some in table.items() for name, lines in some.items()}
+    yield from complaints_between(records, set(fields), "record")
+    yield from complaints_between(cases, set(empty), "definition by cases")
+    for name in sorted(fields.keys() & records.keys()):
+        values = records[name].pop("values", [])
+        yield from complaints_between({**records[name], **dict.fromkeys(values, "a value")}, fields[name], f"field of {name},")
+    for name in sorted(empty.keys() & cases.keys()):
+        yield from complaints_between(cases[name], {"excludes", *empty[name]}, f"clause of {name},")
 
 
 def main():
