@@ -4,9 +4,9 @@
     python3 scripts/clauses.py CRATE[/FILE]..
 
 For each definition in the specs/ of a crate, but for `internal`, it writes lemmas into a copy of the crates, and lets the prover's tactics
-try them: of each field of a record, that it follows from the other fields; of a record, and of each clause of an `abbrev` into `Type 0`, that
-it holds of any arguments. Where values may be chosen, it tries [], 0, None and what is given of the same type; a statement that applies a
-parameter, as `P contents`, may be assumed. It prints what was proved, and what it has no lemma for. That a tactic fails is no proof that
+try them: of each field of a record, that it follows from the other fields; of a record, and of each clause of an `abbrev` into `Type 0`,
+that it holds of any arguments. Where values may be chosen, it tries [], 0, None and what is given of the same type; a statement that applies
+a parameter, as `P contents`, may be assumed. It prints what was proved, and what it has no lemma for. That a tactic fails is no proof that
 something is excluded, so tests/data/clauses.toml says what shows it; tests/lint_repo.py asks for a line for each field of a record there.
 """
 
@@ -41,7 +41,7 @@ pub fn clauses_probe()
 """
 MOST = 16  # choices of values for one definition
 VALUES = {"ℕ": ["0"], "Bool": ["true"]}
-TACTICS = re.compile(r"`(cc|search|grind|first_of|omega|assumption)`|steps|limit")
+TACTICS = re.compile(r"`(cc|search|grind|first_of|omega|assumption)`|\bsteps\b")
 
 
 @dataclass
@@ -153,6 +153,7 @@ def binders(pairs: List[Field]) -> str:
 
 
 def arrow(pairs: List[Field]) -> str:
+    """Returns the beginning of a type that binds these."""
     return f"{binders(pairs)} → " if pairs else ""
 
 
@@ -369,7 +370,8 @@ def imported_records(module: str, library: Library) -> Dict[str, Record]:
     """Returns the records that a module imports."""
     uses = library.module(module)
     found = {name: library.find(*key) for name, key in uses.uses.items()} if uses else {}
-    return {name: record_of(it, library) for name, it in found.items() if isinstance(it, Definition) and it.words[0] == "record" and it.is_ours}
+    ours = {name: it for name, it in found.items() if isinstance(it, Definition) and it.is_ours}
+    return {name: record_of(it, library) for name, it in ours.items() if it.words[0] == "record"}
 
 
 def write_module(crate: Path, file: Path, lemmas: List[Lemma], library: Library) -> Dict[int, Lemma]:
@@ -404,13 +406,11 @@ def errors_of(crate: Path) -> Iterator[Tuple[str, int, str]]:
     command = ["rt", "check", "--jobs", "1", "--only", f"{crate.name}::clauses_probe::clauses_probe"]
     ran = subprocess.run(command, cwd=crate, capture_output=True, text=True, check=False)
     printed = ran.stdout + ran.stderr
-    if "only=1" not in printed:
+    parts = re.split(r"^(?=\S+\.antt:\d+:\d+: |fn |note: )", printed, flags=re.M)
+    found = [it for part in parts if (it := re.match(r"\S*Says(\w+)\.antt:(\d+):\d+: error: (.*)", part, re.S))]
+    if "only=1" not in printed or not found and "only=1 proved=1" not in printed:
         sys.exit(printed)
-    for part in re.split(r"^(?=\S+\.antt:\d+:\d+: |fn |note: )", printed, flags=re.M):
-        if found := re.match(r"\S*Says(\w+)\.antt:(\d+):\d+: error: (.*)", part, re.S):
-            yield found[1], int(found[2]), found[3]
-        elif re.match(r"\S+: error: |rattle: error", part):
-            sys.exit(part)
+    yield from ((it[1], int(it[2]), it[3]) for it in found)
 
 
 def prove(crate: Path, lemmas: Dict[str, List[Lemma]], library: Library, outcome: Outcome) -> None:
@@ -442,11 +442,12 @@ def try_crate(crate: Path, only: str) -> Outcome:
 
 
 def copy_file(source: str, to: str) -> None:
-    """Copies a file, and only links one that a check kept: it writes these anew."""
-    (os.link if "/out/" in source else shutil.copy)(source, to)
+    """Copies a file, and only links a large one that a check kept: a check changes small ones in place."""
+    (os.link if "/out/" in source and os.path.getsize(source) > 1 << 16 else shutil.copy)(source, to)
 
 
 def main(names: List[str]) -> None:
+    """Tries crates, or files of crates, in one copy, and prints what was proved of each."""
     with tempfile.TemporaryDirectory(dir=TOP.parent) as folder:
         copy = Path(folder) / "copy"
         shutil.copytree(TOP, copy, ignore=shutil.ignore_patterns(".git", "dist", "must-fail"), copy_function=copy_file)
@@ -455,7 +456,8 @@ def main(names: List[str]) -> None:
             began = time.monotonic()
             outcome = try_crate(copy / "crates" / crate, file)
             print(f"{name}: {outcome.tried} lemmas, {time.monotonic() - began:.0f} s")
-            print(*(f"  proved: {it}" for it in outcome.proved), *(f"  skipped: {it}" for it in dict.fromkeys(outcome.skipped)), sep="\n", flush=True)
+            print(*(f"  proved: {it}" for it in outcome.proved), sep="\n")
+            print(*(f"  skipped: {it}" for it in dict.fromkeys(outcome.skipped)), sep="\n", flush=True)
 
 
 if __name__ == "__main__":
