@@ -344,7 +344,8 @@ def lemmas_of(file: Path, crate: str, library: Library, outcome: Outcome) -> Ite
     for it in found:
         text = "\n".join(it.lines[it.above :])
         if it.around:
-            outcome.skipped.append(f"{it.name}: it is in `{it.around}`")
+            if it.is_type or is_statement(it):
+                outcome.skipped.append(f"{it.name}: it is in `{it.around}`")
         elif it.words[0] == "record":
             of_it = [*follows(records[it.name]), *holds(records[it.name])]
             values = all(value.is_value for value in records[it.name].fields)
@@ -353,10 +354,10 @@ def lemmas_of(file: Path, crate: str, library: Library, outcome: Outcome) -> Ite
             else:
                 yield from of_it
         elif is_statement(it):
-            if "\n  where" in text:
-                outcome.skipped.append(f"{it.name}: it has a `where`")
-            else:
-                yield from cases(it, context)
+            of_it = [] if "\n  where" in text else [*cases(it, context)]
+            if not of_it:
+                outcome.skipped.append(f"{it.name}: it has a `where`, leaves out arguments, or is ⊥")
+            yield from of_it
 
 
 def names_constructor(library: Library, module: str, word: str) -> bool:
