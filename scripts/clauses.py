@@ -175,6 +175,15 @@ def values_of(kind: str, given: List[Field]) -> List[str]:
     return [*least, *(it.name for it in given if it.type == kind)]
 
 
+def supposed(wanted: List[Field], given: List[Field]) -> List[Field]:
+    """Returns a value to suppose for each type of which there is none to choose."""
+    found: List[Field] = []
+    for it in wanted:
+        if not values_of(it.type, given + found):
+            found.append(Field(f"some_{it.name}", it.type))
+    return found
+
+
 def put_in(text: str, chosen: Dict[str, str]) -> str:
     """Puts terms in place of names in a type."""
     for name, term in chosen.items():
@@ -209,8 +218,9 @@ def holds(record: Record) -> Iterator[Lemma]:
     if all(it.is_value for it in record.fields):
         return
     goal = " ".join([record.name, *(it.name for it in record.parameters if not it.is_implicit)])
-    for number, (term, assumed) in enumerate(islice(made(record, record.parameters, assume=True), MOST)):
-        pairs = record.parameters + [Field(f"assumed_{at}", it) for at, it in enumerate(assumed)]
+    given = record.parameters + supposed([it for it in record.fields if it.is_value], record.parameters)
+    for number, (term, assumed) in enumerate(islice(made(record, given, assume=True), MOST)):
+        pairs = given + [Field(f"assumed_{at}", it) for at, it in enumerate(assumed)]
         name = f"any_{record.name}_{number}"
         left = " ".join([name, *(it.name for it in pairs)])
         if_so = f" if {', '.join(assumed)}" if assumed else ""
@@ -305,6 +315,14 @@ class Context:
     variants: Dict[str, Tuple[str, List[str]]]
     is_constructor: Callable[[str], bool]
 
+    def bound(self, goal: str) -> Iterator[Field]:
+        """Yields the values that a goal binds: by `×`, and by the fields of records that are applied in it."""
+        for names, kind in re.findall(r"\(([^():]+) : ([^()]*(?:\([^()]*\)[^()]*)*)\) ×", goal):
+            yield from (Field(name, kind) for name in names.split())
+        for record in (self.records[it] for it in re.findall(r"[^\s()]+", goal) if it in self.records):
+            names = {it.name for it in record.parameters}
+            yield from (it for it in record.fields if it.is_value and not names & set(re.findall(r"\w+", it.type)))
+
     def chosen(self, given: List[Field], body: str) -> Iterator[Dict[str, str]]:
         """Yields variants to put in place of a variable that a clause names: none, and each of one variable."""
         yield {}
@@ -325,9 +343,10 @@ def cases(definition: Definition, context: Context) -> Iterator[Lemma]:
         known = [it for it in known if it.type != "_" or re.search(rf"(?<![\w.]){it.name}(?![\w'])", body)]
         for at, chosen in enumerate(context.chosen(known, body)):
             given = [it for it in known if it.name not in chosen]
+            goal = put_in(body, chosen)
+            given += supposed([*context.bound(goal)], given)
             pairs = [Field(it.name, it.type) for it in implicit] + given
             left = " ".join([definition.name, *(chosen.get(it, it) for it in patterns)])
-            goal = put_in(body, chosen)
             for choice, term in enumerate(terms(goal, given, context.records)):
                 name = f"any_{definition.name}_{number}_{at}_{choice}"
                 own = " ".join([name, *(it.name for it in pairs)])
