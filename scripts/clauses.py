@@ -5,9 +5,10 @@
 
 For each definition in the specs/ of a crate, but for `internal`, it writes lemmas into a copy of the crates, and lets the prover's tactics
 try them: of each field of a record, that it follows from the other fields; of a record, and of each clause of an `abbrev` into `Type 0`,
-that it holds of any arguments. Where values may be chosen, it tries [], 0, None and what is given of the same type; a statement that applies
-a parameter, as `P contents`, may be assumed. It prints what was proved, and what it has no lemma for. That a tactic fails is no proof that
-something is excluded, so tests/data/clauses.toml says what shows it; tests/lint_repo.py asks for a line for each field of a record there.
+that it holds of any arguments. Where values may be chosen, it tries [], 0, None and what is given of the same type, and supposes one of a
+type that has none of these; a statement that applies a parameter, as `P contents`, may be assumed. It prints what was proved, and what it
+has no lemma for. That a tactic fails is no proof that something is excluded, so tests/data/clauses.toml says what shows it;
+tests/lint_repo.py asks for a line for each field of a record there.
 """
 
 import os
