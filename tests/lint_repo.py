@@ -14,6 +14,7 @@ import json
 import re
 import subprocess
 import sys
+import tomllib
 from pathlib import Path
 
 from tally import Tally
@@ -21,7 +22,9 @@ from tally import Tally
 TOP = Path(__file__).resolve().parent.parent
 sys.path.insert(0, str(TOP / "scripts"))
 
+from antt import definitions_of  # noqa: E402
 from calls import SYMBOLS, calls  # noqa: E402
+from clauses import clauses_of, is_statement, record_of  # noqa: E402
 from definitions import half_said, misplaced  # noqa: E402
 
 DEFINITIONS = (TOP / "docs" / "DEFINITIONS.md").read_text()
@@ -375,6 +378,42 @@ def complaints_of_internal_definitions():
         for number, line in clauses_of_public_functions(lines):
             for name in sorted(names & set(re.findall(r"\w+", line))):
                 yield f"{file.relative_to(TOP)}:{number}: {name}"
+
+
+def definitions_that_say_something(whole):
+    """Yields the crate and each definition on the page of the headline, or of the specs of whole crates, but for internal ones."""
+    page = set(DEFINITION.findall((TOP / "docs" / "HEADLINE.md").read_text()))
+    for file in sorted(TOP.glob("crates/*/specs/*.antt")):
+        crate = file.relative_to(TOP).parts[1]
+        found = definitions_of(f"Rattle.{crate}.specs.{file.stem}", file)
+        yield from ((crate, it) for it in found if crate in whole or it.name in page)
+
+
+def complaints_between(lines, wanted, what):
+    """Yields each thing that is wanted and has no line, and each line for what is not there or without words."""
+    yield from (f"clauses.toml: {what} {it} has no line" for it in sorted(wanted - lines.keys()))
+    yield from (f"clauses.toml: there is no {what} {it} that it has to have" for it in sorted(lines.keys() - wanted))
+    yield from (f"clauses.toml: {what} {it} has no words" for it, line in lines.items() if not line or line == "redundant: ")
+
+
+def complaints_of_fields_that_may_say_nothing():
+    """Yields where tests/data/clauses.toml differs from the records of the headline and of whole crates, and from their clauses by cases."""
+    table = tomllib.loads((TOP / "tests" / "data" / "clauses.toml").read_text())
+    fields, empty = {}, {}
+    for crate, it in definitions_that_say_something(table.pop("whole")):
+        if it.words[0] == "record":
+            fields[f"{crate}.{it.name}"] = {field.name for field in record_of(it).fields}
+        elif is_statement(it) and len(clauses := clauses_of(it)[1]) > 1:
+            empty[f"{crate}.{it.name}"] = {" ".join(patterns) for patterns, body in clauses if body in ("⊤", "Unit {0}")}
+    cases = {f"{crate}.{name}": lines for crate, some in table.pop("cases").items() for name, lines in some.items()}
+    records = {f"{crate}.{name}": lines for crate, some in table.items() for name, lines in some.items()}
+    yield from complaints_between(records, set(fields), "record")
+    yield from complaints_between(cases, set(empty), "definition by cases")
+    for name in sorted(fields.keys() & records.keys()):
+        values = records[name].pop("values", [])
+        yield from complaints_between({**records[name], **dict.fromkeys(values, "a value")}, fields[name], f"field of {name},")
+    for name in sorted(empty.keys() & cases.keys()):
+        yield from complaints_between(cases[name], {"excludes", *empty[name]}, f"clause of {name},")
 
 
 def main():
