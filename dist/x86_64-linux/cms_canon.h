@@ -243,8 +243,8 @@ void cms_canon_digests_asked(const uint8_t *input, size_t input_length, uint64_t
  * or `has_data` is false, its pointer may point to anything and its count be 0. More digests may be given than are asked for, in any
  * order. The first one by an algorithm counts, and one by an algorithm that is not known here is not used.
  *
- * If one that is asked for is not given, the call is refused as `digest not given` (CMS_CANON_NO_DIGEST); if the content is needed
- * itself and `has_content` is true, as `needs the content` (CMS_CANON_NEEDS_CONTENT).
+ * If the content is needed itself and `has_content` is true, the call is refused as `needs the content` (CMS_CANON_NEEDS_CONTENT);
+ * else, if a digest that is asked for is not given, as `digest not given` (CMS_CANON_NO_DIGEST).
  *
  * The message and its DER may have at most `limit` octets each.
  */
