@@ -363,7 +363,7 @@ If they are hopeless, they also say why (`SayWhy`), and it is not E18:
 - with E17 they end in a header with the identifier octet 30, and an element 06 whose contents are not those of id-signedData;
 - with E6, E7, E12 to E16 and E19 nothing more is said of them.
 
-`SayWhy` does not say where in the message that header or element begins, nor that the reader takes it for one: any octets may come before it.
+`SayWhy` leaves open the position of that header or element, and whether the reader treats it as one: any octets may come before it.
 So it excludes a wrong reason only if the octets do not happen to end so: `30 04 04 02 02 00` ends in a malformed INTEGER, though no INTEGER is
 due there. Nor does this page say that the refusal is the first one that reading from left to right comes to. Both are fixed by another
 clause of `read_message`, `refines`, which names the pure readers.
@@ -387,7 +387,7 @@ A name in brackets after what a grammar is, as [`Tagged`], is the type of the co
 {rules}
 
 Notation: `(x : A) × B` is a pair whose second part may speak of the first one; `.0` and `.1`, or a name, is a part of a value;
-`record g {{ .. }}` is `g` with other rows; `abbrev` defines a name by what it stands for; `◌` is the place of an operand. Of the kit,
+`record g {{ .. }}` is `g` with other rows; `abbrev` introduces a synonym; `◌` marks the position of an operand. Of the kit,
 `IfSome`, `IfOk` and `IfErr` say nothing in the other case, `slice_index` is 0 past the end of a list, and `AllZip` says that two lists are
 equally long.
 """
