@@ -1,19 +1,33 @@
 -- What reading opaque values refuses with E2 to E5, and for which octets.
-use Rattle.std.proofs.Common.{◌≡◌, inl, inr, ℕ, zero, suc, ◌+◌, ◌-◌, ◌/◌, ◌%◌, eqb, List, ◌++◌, Ok, Err, refl, subst, arith}
+use Rattle.std.proofs.Common.{◌≡◌, inl, inr, ℕ, zero, suc, ◌+◌, ◌-◌, ◌/◌, ◌%◌, eqb, List, ◌∷◌, ◌++◌, Ok, Err, refl, subst, arith}
+use Rattle.std.proofs.lemmas.Bool.{eqb-true}
 use Rattle.cms_tlv.specs.declared.fault.Reason.{Reason}
 use Rattle.cms_tlv.specs.declared.fault.Reason.TheVariants.{OpaqueNotDer, OpaqueTooDeep}
 use Rattle.cms_tlv.specs.declared.bound.Bound.{Bound}
+use Rattle.cms_tlv.specs.declared.bound.Header.{Header}
+use Rattle.cms_tlv.specs.Frames.{IsPath}
+use Rattle.cms_tlv.specs.Headers.{IsHeader}
 use Rattle.cms_tlv.specs.Opaque.{IsFramed}
 use Rattle.cms_tlv.specs.Reading.{Cursor, stop, Reader, ◌>>=◌, give, refuse, ends_here, expected_of, counted_of, is_framed, framing_fault, framed_header_of, all_of, to_end_of, framed_of, opaque_of}
 use Rattle.cms_tlv.proofs.Inverse.{okay, bad, chosen, branch, bind_err}
 use Rattle.cms_tlv.proofs.ReadingLaws.{Moves, moves_then}
 use Rattle.cms_tlv.specs.Refines.{NeedsNoOctets}
-use Rattle.cms_tlv.proofs.Ties.{Ties, TiesLast, at_once, stop_reason, expected_ties, counted_lacks}
+use Rattle.cms_tlv.proofs.Ties.{Ties, TiesLast, at_once, stop_reason, lacks_later, expected_ties, counted_lacks}
 use Rattle.cms_tlv.proofs.OpaqueGives.{framing_free}
-use Rattle.cms_tlv.proofs.OpaqueReads.{head_of, framed_sound, opaque_cut}
+use Rattle.cms_tlv.proofs.OpaqueReads.{FramedHead, head_of, framed_sound, opaque_cut}
+use Rattle.cms_tlv.proofs.Paths.{path_then, header_path, framed_path}
 
-pub after_octets : {c m : Cursor} {b : List ℕ} {reason : Reason} {at : ℕ} → Moves c b m → TiesLast m reason at → TiesLast c reason at
-after_octets {b = b} p t = record { prefix = b ++ t.prefix; last = t.last; moves = moves_then p t.moves; ties = t.ties }
+pub after_path : {c m : Cursor} {b : List ℕ} {reason : Reason} {at : ℕ} → IsPath b → Moves c b m → TiesLast m reason at → TiesLast c reason at
+after_path {b = b} h p t = record { prefix = b ++ t.prefix; path = path_then h t.path; last = t.last; moves = moves_then p t.moves; ties = t.ties }
+
+head_header : {bd : Bound} {c d : Cursor} {h : Header} (k : FramedHead bd c d h) → IsHeader h.ident ((h.ident ∷ k.more) ++ k.sizes)
+head_header {h = h} k = record {
+  identifier = h.ident ∷ k.more;
+  sizes = k.sizes;
+  parts = refl;
+  is_identifier = k.is_ident;
+  is_length = inl (k.size, k.is_short.is);
+}
 
 -- a refusal for another reason
 framing : {A : Type 0} (c : Cursor) {e : Reason} {m : ℕ} {reason : Reason} {at : ℕ} → NeedsNoOctets c.limit at e
@@ -41,7 +55,7 @@ module _ (f : Bound → Reader (Unit {0})) (dep : ℕ)
         | inl x ↦ absurd (let k = x.1 in cc)
         | inr x ↦ elim (bind_err (f bd) (λ u. all_of count f bd) c x.1) [
           | inl y ↦ ties bd c reason at y
-          | inr y ↦ let one = sound bd c y.1 y.0 y.2 in after_octets one.1 (all_ties count bd y.1 y.3)
+          | inr y ↦ let one = sound bd c y.1 y.0 y.2 in after_path (framed_path one.2) one.1 (all_ties count bd y.1 y.3)
         ]
       ]
 
@@ -60,10 +74,10 @@ framed_ties (suc left) dep n bd c {reason = reason} {at = at} e = elim (bind_err
       let k = head_of bd c m h s.2 in
       elim (branch (eqb ((h.ident / 32) % 2) 1) (to_end_of (framed_of left) h.inner) (counted_of h.inner h.len >>= λ octets. give tt) m
       (bad (stop reason at)) s.3) [
-        | inl x ↦ after_octets k.moves (all_ties (framed_of left) (suc dep) (framed_sound left (suc dep) (omega arith))
+        | inl x ↦ after_path (header_path (head_header k) (eqb-true ((h.ident / 32) % 2) 1 x.0)) k.moves (all_ties (framed_of left) (suc dep) (framed_sound left (suc dep) (omega arith))
             (λ bd c reason at e. framed_ties left (suc dep) (omega arith) bd c e) (suc (m.limit - m.at)) h.inner m x.1)
         | inr x ↦ elim (bind_err (counted_of h.inner h.len) (λ octets. give tt) m x.1) [
-          | inl y ↦ after_octets k.moves (at_once (inl (counted_lacks h.inner h.len m y)))
+          | inl y ↦ at_once (inl (lacks_later reason at k.moves (counted_lacks h.inner h.len m y)))
           | inr y ↦ absurd (let z = y.3 in cc)
         ]
       ]

@@ -9,6 +9,7 @@ use Rattle.cms_tlv.specs.declared.fault.Reason.{Reason}
 use Rattle.cms_tlv.specs.declared.fault.Reason.TheVariants.{Truncated, TooLarge, LengthReserved, LengthTooLong, IndefinitePrimitive, Overrun, UnexpectedElement, SignedAttrsNotDer}
 use Rattle.cms_tlv.specs.declared.bound.Bound.{Bound}
 use Rattle.cms_tlv.specs.declared.bound.Header.{Header}
+use Rattle.cms_tlv.specs.Frames.{start}
 use Rattle.cms_tlv.specs.Headers.{IsOctet, AreOctets, IsLength, short, long, big_endian}
 use Rattle.cms_tlv.specs.State.{State, KeepsNoneAhead, as_list}
 use Rattle.cms_tlv.specs.Reading.{Cursor, place, stop, Reader, ◌>>=◌, give, refuse, again, is_past, first_octet, octet_of, look_of, octets_of, tag_of, number_of, is_over, is_shortest, definite_length_of, long_of, indefinite_length_of, after_first, rest_of_tag, ends_here, header_of, expected_of, unless_end, peek_of, is_zeros, end_in, close_of, enter_of, counted_of, primitive_of}
@@ -293,7 +294,7 @@ primitive_ties id bd c {reason = reason} {at = at} e = elim (bind_err (expected_
 
 -- behind what was read well, the last header
 pub at_once : {c : Cursor} {reason : Reason} {at : ℕ} → Ties c reason at → TiesLast c reason at
-at_once {c = c} t = record { prefix = []; last = c; moves = moves_nothing c; ties = t }
+at_once {c = c} t = record { prefix = []; path = start; last = c; moves = moves_nothing c; ties = t }
 
 -- Calls.
 
@@ -337,10 +338,10 @@ pub tied_last_from : {A V : Type 0} (view : State → V → A) (f : Reader A) (o
 tied_last_from view f old new (Ok v) ties g k = tt
 tied_last_from view f old new (Err (faults.Refused reason at)) ties g k =
     let t = ties (cursor old (g.reaches.more ++ [])) reason (length new.done) (g.reaches.refines [] ∙ g.explained.2 [] (λ _. refl)) in
-    (t.prefix, tied g.reaches reason at k t.prefix t.last t.moves t.ties)
-tied_last_from view f old new (Err faults.Read) ties g k = ([], tt)
-tied_last_from view f old new (Err (faults.Write written)) ties g k = ([], tt)
-tied_last_from view f old new (Err faults.OutOfMemory) ties g k = ([], tt)
+    (t.prefix, t.path, tied g.reaches reason at k t.prefix t.last t.moves t.ties)
+tied_last_from view f old new (Err faults.Read) ties g k = ([], start, tt)
+tied_last_from view f old new (Err (faults.Write written)) ties g k = ([], start, tt)
+tied_last_from view f old new (Err faults.OutOfMemory) ties g k = ([], start, tt)
 
 -- the octets consumed and the limit are all that is said of the state before
 tied_same : (old mid new : State) (e : Fault) → mid.done ≡ old.done → mid.limit ≡ old.limit → Tied mid new e → Tied old new e

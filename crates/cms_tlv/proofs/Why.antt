@@ -3,20 +3,23 @@ use Rattle.std.proofs.Common.{◌≡◌, inl, inr, ℕ, zero, suc, ◌+◌, ◌-
 use Rattle.cms_tlv.specs.declared.fault.Reason.{Reason}
 use Rattle.cms_tlv.specs.declared.fault.Reason.TheVariants.{UnexpectedElement, SignedAttrsNotDer}
 use Rattle.cms_tlv.specs.declared.bound.Bound.{Bound}
+use Rattle.cms_tlv.specs.declared.bound.Header.{Header}
 use Rattle.cms_tlv.specs.Reading.{Cursor, stop, Reader, ◌>>=◌, give, refuse, peek_of, close_of, enter_of, expected_of, primitive_of, give_if, scalar_of, may_be, optional_of, many_of, all_by, taking, opaque_of, member_of, members_of, row_of, rows_of}
 use Rattle.cms_tlv.proofs.Inverse.{okay, bad, branch, ok_value, ok_place, bind_ok, bind_err}
 use Rattle.cms_tlv.proofs.FrameLaws.{identifier_some}
 use Rattle.cms_tlv.specs.Law.{rules_of}
 use Rattle.cms_tlv.specs.Clauses.{Contains, EndsBefore, IsWithin}
-use Rattle.cms_tlv.specs.Headers.{IsHeader}
+use Rattle.cms_tlv.specs.Frames.{IsPath, start}
+use Rattle.cms_tlv.specs.Headers.{AreOctets, IsConstructed, IsHeader}
+use Rattle.cms_tlv.specs.Law.{EndedBy}
 use Rattle.std.proofs.lemmas.Bool.{eqb-true}
 use Rattle.cms_tlv.proofs.Within.{sooner, Inside, from_inside, expected_within, inner_inside, close_within, primitive_within, opaque_within, taken_goes}
 use Rattle.cms_tlv.proofs.Rules.{follows}
 use Rattle.cms_tlv.proofs.ReadingLaws.{Moves, moves_nothing, moves_then}
 use Rattle.cms_tlv.proofs.Ends.{peek_same, close_sound}
-use Rattle.cms_tlv.proofs.HeaderReads.{header_sound, header_is}
+use Rattle.cms_tlv.proofs.HeaderReads.{Head, header_sound, header_is}
 use Rattle.cms_tlv.proofs.PrimitiveClauses.{primitive_spells}
-use Rattle.cms_tlv.specs.RefusalReasons.{Told, Explained, IsFree, SaysWhy, says_nothing, says_malformed, either_says, says_later, says_then, says_inside}
+use Rattle.cms_tlv.specs.RefusalReasons.{HasCause, Explained, IsFree, SaysWhy, says_nothing, says_element, says_malformed, either_says, says_later, says_then, says_inside}
 use Rattle.cms_tlv.specs.declared.fault.Fault.{Fault}
 use Rattle.cms_tlv.specs.declared.fault.Fault.TheVariants as faults
 use Rattle.cms_tlv.specs.State.{State, as_list}
@@ -25,7 +28,8 @@ use Rattle.std.specs.Prelude.{IfErr, OnOk}
 use Rattle.cms_tlv.proofs.Lists.{same_prefixes}
 use Rattle.cms_tlv.proofs.Ties.{at_once, stop_reason, stop_place, tied, close_ties, peek_ties, enter_ties, primitive_ties}
 use Rattle.cms_tlv.proofs.OpaqueReads.{opaque_reads, opaque_field}
-use Rattle.cms_tlv.proofs.OpaqueTies.{after_octets, opaque_ties}
+use Rattle.cms_tlv.proofs.OpaqueTies.{after_path, opaque_ties}
+use Rattle.cms_tlv.proofs.Paths.{path_then, header_path, element_path, end_path, framed_path}
 use Rattle.cms_tlv.proofs.OctetsTaken.{taking_cut}
 
 -- nothing was taken past the bound by the one reader, nor by the next
@@ -35,64 +39,86 @@ both_within end b [] {m = m} {d = d} p h k l = sooner end d.at m.at (omega (arit
 both_within end b (x ∷ c) p h k l = k (omega arith)
 
 -- after octets that were read well
-told_after : {K : Reason → List ℕ → Type 0} {c m : Cursor} {b : List ℕ} (reason : Reason) (at : ℕ) → Moves c b m → Told K m reason at
-    → Told (says_later K) c reason at
-told_after reason at p (inl t) = inl (after_octets p t)
-told_after {b = b} reason at p (inr t) = inr (record {
+cause_after : {K : Reason → List ℕ → Type 0} {c m : Cursor} {b : List ℕ} (reason : Reason) (at : ℕ) → IsPath b → Moves c b m → HasCause K m reason at
+    → HasCause (says_later K) c reason at
+cause_after reason at q p (inl t) = inl (after_path q p t)
+cause_after {b = b} reason at q p (inr t) = inr (record {
   octets = b ++ t.octets;
   after = t.after;
   moves = moves_then p t.moves;
   here = t.here;
-  malformed = (b, t.octets, refl, t.malformed);
+  malformed = (b, t.octets, refl, q, t.malformed);
 })
 
 -- What is said of fewer octets is said of more.
-told_wider : {K L : Reason → List ℕ → Type 0} → ((reason : Reason) (b : List ℕ) → K reason b → L reason b) → (c : Cursor) (reason : Reason) (at : ℕ)
-    → Told K c reason at → Told L c reason at
-told_wider w c reason at (inl t) = inl t
-told_wider w c reason at (inr t) =
+cause_wider : {K L : Reason → List ℕ → Type 0} → ((reason : Reason) (b : List ℕ) → K reason b → L reason b) → (c : Cursor) (reason : Reason) (at : ℕ)
+    → HasCause K c reason at → HasCause L c reason at
+cause_wider w c reason at (inl t) = inl t
+cause_wider w c reason at (inr t) =
     inr (record { octets = t.octets; after = t.after; moves = t.moves; here = t.here; malformed = w reason t.octets t.malformed })
 
 pub wider : {K L : Reason → List ℕ → Type 0} → ((reason : Reason) (b : List ℕ) → K reason b → L reason b)
     → {A : Type 0} {n : ℕ} {bd : Bound} {f : Reader A} → Explained K n bd f → Explained L n bd f
-wider w p = record { goes = p.goes; told = λ c reason at e. told_wider w c reason at (p.told c reason at e) }
+wider w p = record { goes = p.goes; cause = λ c reason at e. cause_wider w c reason at (p.cause c reason at e) }
 
 -- after the header of an element
-told_inside : {K : Reason → List ℕ → Type 0} {c m : Cursor} {b : List ℕ} (id : ℕ) (reason : Reason) (at : ℕ) → IsHeader id b → Moves c b m
-    → Told K m reason at → Told (says_inside id K) c reason at
-told_inside id reason at i p (inl t) = inl (after_octets p t)
-told_inside {b = b} id reason at i p (inr t) = inr (record {
+cause_inside : {K : Reason → List ℕ → Type 0} {c m : Cursor} {b : List ℕ} (id : ℕ) (reason : Reason) (at : ℕ) → IsHeader id b → IsConstructed id → Moves c b m
+    → HasCause K m reason at → HasCause (says_inside id K) c reason at
+cause_inside id reason at i k p (inl t) = inl (after_path (header_path i k) p t)
+cause_inside {b = b} id reason at i k p (inr t) = inr (record {
   octets = b ++ t.octets;
   after = t.after;
   moves = moves_then p t.moves;
   here = t.here;
-  malformed = (b, t.octets, refl, i, t.malformed);
+  malformed = (b, t.octets, refl, i, k, t.malformed);
 })
 
 -- after other octets that were read well
-told_later : {K : Reason → List ℕ → Type 0} {c m : Cursor} {b : List ℕ} (reason : Reason) (at : ℕ) → Moves c b m
-    → Told (says_later K) m reason at → Told (says_later K) c reason at
-told_later {c = c} reason at p t =
-    told_wider (λ r b x. (x.0 ++ x.3.0, x.3.1, x.2 ∙ ap (λ y. x.0 ++ y) x.3.2 ∙ sym (append_assoc x.0 x.3.0 x.3.1), x.3.3)) c reason at (told_after reason at p t)
+cause_later : {K : Reason → List ℕ → Type 0} {c m : Cursor} {b : List ℕ} (reason : Reason) (at : ℕ) → IsPath b → Moves c b m
+    → HasCause (says_later K) m reason at → HasCause (says_later K) c reason at
+cause_later {K = K} {c = c} reason at q p t = cause_wider joined c reason at (cause_after reason at q p t)
+  where
+    joined : (r : Reason) (b : List ℕ) → says_later (says_later K) r b → says_later K r b
+    joined r b x =
+        let y = x.4 in (x.0 ++ y.0, y.1, x.2 ∙ ap (λ z. x.0 ++ z) y.2 ∙ sym (append_assoc x.0 y.0 y.1), path_then x.3 y.3, y.4)
+
+by_ber : {id : ℕ} {b c : List ℕ} (strict : Bool) → Contains id strict b c → Contains id false b c
+by_ber false h = h
+by_ber true h = record {
+  identifier = h.identifier;
+  sizes = h.sizes;
+  parts = h.parts;
+  is_identifier = h.is_identifier;
+  is_length = h.is_length.is;
+  octets = h.octets;
+}
 
 -- Nothing is said of what comes later.
 pub quiet : (K : Reason → List ℕ → Type 0) (reason : Reason) (b : List ℕ) → says_then K says_nothing reason b → K reason b
 quiet K reason b (inl x) = x
-quiet K reason b (inr x) = absurd x.3
+quiet K reason b (inr x) = absurd x.4
+
+ended_path : (i : Bool) (end : Option ℕ) (at : ℕ) (o : List ℕ) → EndedBy i end at [] o → IsPath o
+ended_path true end at o e = subst IsPath (sym e) end_path
+ended_path false end at o e = subst IsPath (sym e.0) start
+
+-- the header that was read is one with the identifier octet that was tested
+header_with : {bd : Bound} {c d : Cursor} {h : Header} {id : ℕ} (k : Head bd c d h) → eqb h.ident id ≡ true → IsHeader id ((h.ident ∷ k.more) ++ k.sizes)
+header_with {h = h} {id = id} k e = subst (λ i. IsHeader i ((h.ident ∷ k.more) ++ k.sizes)) (eqb-true h.ident id e) (header_is k)
 
 -- K says for which reason octets are refused
 module _ (K : Reason → List ℕ → Type 0) where
   pub gives_explained : {A : Type 0} {bd : Bound} (x : A) → Explained K 0 bd (give x)
   gives_explained x =
       record {
-        goes = λ c d v e. ([], subst (λ m. Moves c [] m) (ok_place e) (moves_nothing c), omega arith, λ l. absurd (omega arith));
-        told = λ c reason at e. absurd (let k = e in cc);
+        goes = λ c d v e. ([], subst (λ m. Moves c [] m) (ok_place e) (moves_nothing c), omega arith, λ l. absurd (omega arith), start);
+        cause = λ c reason at e. absurd (let k = e in cc);
       }
 
   pub refuses_explained : {A : Type 0} {bd : Bound} (reason : Reason) → IsFree reason → Explained K 1 bd (refuse {A = A} reason)
   refuses_explained {A = A} reason free = record {
     goes = λ c d v e. absurd (let k = e in cc);
-    told = λ c other at e. inl (at_once (inl (subst (NeedsNoOctets c.limit at) (stop_reason {A = A} e) (free c.limit at))));
+    cause = λ c other at e. inl (at_once (inl (subst (NeedsNoOctets c.limit at) (stop_reason {A = A} e) (free c.limit at))));
   }
 
   pub bound_explained : {L : Reason → List ℕ → Type 0} {A B : Type 0} {bd : Bound} {m n : ℕ} {f : Reader A} {h : A → Reader B}
@@ -102,10 +128,10 @@ module _ (K : Reason → List ℕ → Type 0) where
         let s = bind_ok f h c e in
         let one = p.goes c s.1 s.0 s.2 in
         let two = (q s.0).goes s.1 d v s.3 in
-        (one.0 ++ two.0, moves_then one.1 two.1, omega (arith, length-append one.0 two.0, one.2, two.2), both_within bd.end one.0 two.0 two.1 one.3 two.3);
-    told = λ c reason at e. elim (bind_err f h c e) [
-      | inl x ↦ told_wider (λ r b. inl) c reason at (p.told c reason at x)
-      | inr s ↦ told_wider (λ r b. inr) c reason at (told_after reason at (p.goes c s.1 s.0 s.2).1 ((q s.0).told s.1 reason at s.3))
+        (one.0 ++ two.0, moves_then one.1 two.1, omega (arith, length-append one.0 two.0, one.2, two.2), both_within bd.end one.0 two.0 two.1 one.3 two.3, path_then one.4 two.4);
+    cause = λ c reason at e. elim (bind_err f h c e) [
+      | inl x ↦ cause_wider (λ r b. inl) c reason at (p.cause c reason at x)
+      | inr s ↦ cause_wider (λ r b. inr) c reason at (let one = p.goes c s.1 s.0 s.2 in cause_after reason at one.4 one.1 ((q s.0).cause s.1 reason at s.3))
     ];
   }
 
@@ -120,9 +146,10 @@ module _ (K : Reason → List ℕ → Type 0) where
           subst (λ m. Moves c one.0 m) here one.1,
           one.2,
           subst (λ (m : Cursor). 1 ≤ length one.0 → EndsBefore bd.end m.at) here one.3,
+          one.4,
         );
-    told = λ c reason at e. elim (bind_err f (λ x. give (g x)) c e) [
-      | inl x ↦ p.told c reason at x
+    cause = λ c reason at e. elim (bind_err f (λ x. give (g x)) c e) [
+      | inl x ↦ p.cause c reason at x
       | inr s ↦ absurd (let z = s.3 in cc)
     ];
   }
@@ -132,7 +159,7 @@ module _ (K : Reason → List ℕ → Type 0) where
   branch_explained false p q = q
 
   pub fewer : {A : Type 0} {bd : Bound} {n : ℕ} {f : Reader A} → Explained K n bd f → Explained K 0 bd f
-  fewer p = record { goes = λ c d v e. (let s = p.goes c d v e in (s.0, s.1, omega arith, s.3)); told = p.told }
+  fewer p = record { goes = λ c d v e. (let s = p.goes c d v e in (s.0, s.1, omega arith, s.3, s.4)); cause = p.cause }
 
   pub peek_explained : (bd : Bound) → Explained K 0 bd (peek_of bd)
   peek_explained bd =
@@ -142,8 +169,9 @@ module _ (K : Reason → List ℕ → Type 0) where
           subst (λ m. Moves c [] m) (peek_same bd c d o e) (moves_nothing c),
           omega arith,
           λ l. absurd (omega arith),
+          start,
         );
-        told = λ c reason at e. inl (at_once (peek_ties bd c e));
+        cause = λ c reason at e. inl (at_once (peek_ties bd c e));
       }
 
   -- the next octet was looked at, which takes none
@@ -151,9 +179,9 @@ module _ (K : Reason → List ℕ → Type 0) where
       → Explained K n bd (peek_of bd >>= h)
   peeked_explained {bd = bd} {h = h} q = record {
     goes = λ c d v e. let s = bind_ok (peek_of bd) h c e in (q s.0).goes c d v (ap (h s.0) (peek_same bd c s.1 s.0 s.2) ∙ s.3);
-    told = λ c reason at e. elim (bind_err (peek_of bd) h c e) [
+    cause = λ c reason at e. elim (bind_err (peek_of bd) h c e) [
       | inl x ↦ inl (at_once (peek_ties bd c x))
-      | inr s ↦ (q s.0).told c reason at (ap (h s.0) (peek_same bd c s.1 s.0 s.2) ∙ s.3)
+      | inr s ↦ (q s.0).cause c reason at (ap (h s.0) (peek_same bd c s.1 s.0 s.2) ∙ s.3)
     ];
   }
 
@@ -167,15 +195,16 @@ module _ (K : Reason → List ℕ → Type 0) where
         | inl x ↦ absurd (omega (arith, s.2.at, ap (λ (m : Cursor). m.at) x, l))
         | inr x ↦ x
       ],
+      ended_path bd.indefinite bd.end c.at s.0 s.1,
     ));
-    told = λ c reason at e. inl (at_once (close_ties bd c e));
+    cause = λ c reason at e. inl (at_once (close_ties bd c e));
   }
 
-  -- the header of an element, and what it holds
-  pub entered_explained : {A : Type 0} {n : ℕ} {g : Bound → Reader A} (id : ℕ) (bd : Bound)
+  -- the header of a constructed element, and what it holds
+  pub entered_explained : {A : Type 0} {n : ℕ} {g : Bound → Reader A} (id : ℕ) → IsConstructed id → (bd : Bound)
       → ((inner : Bound) → Explained K n inner (g inner)) → Explained (says_inside id K) 1 bd (enter_of id bd >>= g)
   unfolding enter_of
-  entered_explained {g = g} id bd h = record {
+  entered_explained {g = g} id constructed bd h = record {
     goes = λ c d v e.
         let s = bind_ok (enter_of id bd) g c e in
         let t = bind_ok (expected_of bd) _ c s.2 in
@@ -193,19 +222,31 @@ module _ (K : Reason → List ℕ → Type 0) where
                 omega (arith, length-append ((t.0.ident ∷ k.more) ++ k.sizes) two.0, length-append (t.0.ident ∷ k.more) k.sizes),
                 both_within bd.end ((t.0.ident ∷ k.more) ++ k.sizes) two.0 two.1 (λ l. header)
                     (λ l. from_inside bd.end s.0.end d.at inside (two.3 l)),
+                path_then (header_path (header_with k x.0) constructed) two.4,
               )
           | inr x ↦ absurd (let z = x.1 in cc)
         ];
-    told = λ c reason at e. elim (bind_err (enter_of id bd) g c e) [
+    cause = λ c reason at e. elim (bind_err (enter_of id bd) g c e) [
       | inl x ↦ inl (at_once (enter_ties id bd c x))
       | inr s ↦
           let t = bind_ok (expected_of bd) _ c s.2 in
           let k = header_sound bd c t.1 t.0 t.2 in
           elim (branch (eqb t.0.ident id) (give t.0.inner) (refuse UnexpectedElement) t.1 (okay (s.0, s.1)) t.3) [
-            | inl x ↦ told_inside id reason at (subst (λ i. IsHeader i ((t.0.ident ∷ k.more) ++ k.sizes)) (eqb-true t.0.ident id x.0) (header_is k))
-                (subst (λ m. Moves c ((t.0.ident ∷ k.more) ++ k.sizes) m) (ok_place x.1) k.moves) ((h s.0).told s.1 reason at s.3)
+            | inl x ↦ cause_inside id reason at (header_with k x.0) constructed
+                (subst (λ m. Moves c ((t.0.ident ∷ k.more) ++ k.sizes) m) (ok_place x.1) k.moves) ((h s.0).cause s.1 reason at s.3)
             | inr x ↦ absurd (let z = x.1 in cc)
           ]
+    ];
+  }
+
+  -- the header of an element, after which reading is refused
+  pub entered_refused : {A : Type 0} (id : ℕ) (bd : Bound) (reason : Reason) → IsFree reason
+      → Explained K 1 bd (enter_of id bd >>= λ inner. refuse {A = A} reason)
+  entered_refused {A = A} id bd reason free = record {
+    goes = λ c d v e. absurd (let s = bind_ok (enter_of id bd) _ c e in let z = s.3 in cc);
+    cause = λ c other at e. elim (bind_err (enter_of id bd) _ c e) [
+      | inl x ↦ inl (at_once (enter_ties id bd c x))
+      | inr s ↦ inl (at_once (inl (subst (NeedsNoOctets c.limit at) (stop_reason {A = A} s.3) (free c.limit at))))
     ];
   }
 
@@ -222,8 +263,9 @@ module _ (K : Reason → List ℕ → Type 0) where
             i,
           )),
           λ l. primitive_within id bd c d v e,
+          element_path (by_ber bd.strict k.2),
         ));
-    told = λ c reason at e. inl (at_once (primitive_ties id bd c e));
+    cause = λ c reason at e. inl (at_once (primitive_ties id bd c e));
   }
 
   pub optional_explained : {A : Type 0} (p : ℕ → Bool) {f : Bound → Reader A} → ((bd : Bound) → Explained K 1 bd (f bd)) → (bd : Bound)
@@ -235,12 +277,12 @@ module _ (K : Reason → List ℕ → Type 0) where
   unfolding taking
   taking_explained f bd h = record {
     goes = λ c d v e. h.goes c d v.1 (taken_goes c d (f bd c) v e);
-    told = λ c reason at e. h.told c reason at (taking_cut f bd c (stop reason at) e);
+    cause = λ c reason at e. h.cause c reason at (taking_cut f bd c (stop reason at) e);
   }
 
   module _ {S A : Type 0} {f : S → Bound → Reader (S × A)} (h : (s : S) (bd : Bound) → Explained K 1 bd (f s bd)) where
     many_goes : (count : ℕ) (s : S) (bd : Bound) (c d : Cursor) (vs : List A) → many_of count f s bd c ≡ Ok (vs, d)
-        → (b : List ℕ) × Moves c b d × (1 ≤ length b → EndsBefore bd.end d.at)
+        → (b : List ℕ) × Moves c b d × (1 ≤ length b → EndsBefore bd.end d.at) × IsPath b
     unfolding many_of
     many_goes zero s bd c d vs e = absurd (let z = e in cc)
     many_goes (suc count) s bd c d vs e = (
@@ -259,6 +301,7 @@ module _ (K : Reason → List ℕ → Type 0) where
                 first.0 ++ (one.0 ++ two.0),
                 subst (λ m. Moves c (first.0 ++ (one.0 ++ two.0)) m) here goes,
                 subst (λ (m : Cursor). 1 ≤ length (first.0 ++ (one.0 ++ two.0)) → EndsBefore bd.end m.at) here ends,
+                path_then first.4 (path_then one.4 two.3),
               )
           | inr x ↦
               let t = bind_ok (close_of bd) _ o.1 x.1 in
@@ -268,33 +311,34 @@ module _ (K : Reason → List ℕ → Type 0) where
                 subst (λ m. Moves c (first.0 ++ one.0) m) here (moves_then first.1 one.1),
                 subst (λ (m : Cursor). 1 ≤ length (first.0 ++ one.0) → EndsBefore bd.end m.at) here
                     (both_within bd.end first.0 one.0 one.1 first.3 one.3),
+                path_then first.4 one.4,
               )
         ])
 
-    many_told : (count : ℕ) (s : S) (bd : Bound) (c : Cursor) (reason : Reason) (at : ℕ) → c.limit ≤ c.at + count
-        → many_of count f s bd c ≡ Err (stop reason at) → Told (says_later K) c reason at
+    many_cause : (count : ℕ) (s : S) (bd : Bound) (c : Cursor) (reason : Reason) (at : ℕ) → c.limit ≤ c.at + count
+        → many_of count f s bd c ≡ Err (stop reason at) → HasCause (says_later K) c reason at
     unfolding many_of
-    many_told zero s bd c reason at l e =
+    many_cause zero s bd c reason at l e =
         let past : c.limit ≤ at = subst (λ n. c.limit ≤ n) (stop_place e) (omega arith) in
         inl (at_once (inl (subst (NeedsNoOctets c.limit at) (stop_reason e) past)))
-    many_told (suc count) s bd c reason at l e = elim (bind_err (peek_of bd) _ c e) [
+    many_cause (suc count) s bd c reason at l e = elim (bind_err (peek_of bd) _ c e) [
       | inl x ↦ inl (at_once (peek_ties bd c x))
       | inr o ↦
           let first = (peek_explained bd).goes c o.1 o.0 o.2 in
           elim (branch (may_be (λ _. true) o.0) (f s bd >>= λ p. many_of count f p.0 bd >>= λ vs. give (p.1 ∷ vs))
           (close_of bd >>= λ u. give []) o.1 (bad (stop reason at)) o.3) [
             | inl x ↦ elim (bind_err (f s bd) _ o.1 x.1) [
-              | inl y ↦ told_after reason at first.1 ((h s bd).told o.1 reason at y)
+              | inl y ↦ cause_after reason at first.4 first.1 ((h s bd).cause o.1 reason at y)
               | inr t ↦
                   let one = (h s bd).goes o.1 t.1 t.0 t.2 in
                   elim (bind_err (many_of count f t.0.0 bd) _ t.1 t.3) [
-                    | inl y ↦ told_later reason at (moves_then first.1 one.1)
-                        (many_told count t.0.0 bd t.1 reason at (omega (arith, first.1.at, first.1.limit, one.1.at, one.1.limit, one.2, l)) y)
+                    | inl y ↦ cause_later reason at (path_then first.4 one.4) (moves_then first.1 one.1)
+                        (many_cause count t.0.0 bd t.1 reason at (omega (arith, first.1.at, first.1.limit, one.1.at, one.1.limit, one.2, l)) y)
                     | inr y ↦ absurd (let z = y.3 in cc)
                   ]
             ]
             | inr x ↦ elim (bind_err (close_of bd) _ o.1 x.1) [
-              | inl y ↦ inl (after_octets first.1 (at_once (close_ties bd o.1 y)))
+              | inl y ↦ inl (after_path first.4 first.1 (at_once (close_ties bd o.1 y)))
               | inr y ↦ absurd (let z = y.3 in cc)
             ]
           ]
@@ -303,8 +347,8 @@ module _ (K : Reason → List ℕ → Type 0) where
     pub all_explained : (s : S) (bd : Bound) → Explained (says_later K) 0 bd (all_by f s bd)
     unfolding all_by
     all_explained s bd = record {
-      goes = λ c d vs e. (let p = many_goes (suc (c.limit - c.at)) s bd c d vs e in (p.0, p.1, omega arith, p.2));
-      told = λ c reason at e. many_told (suc (c.limit - c.at)) s bd c reason at (omega arith) e;
+      goes = λ c d vs e. (let p = many_goes (suc (c.limit - c.at)) s bd c d vs e in (p.0, p.1, omega arith, p.2, p.3));
+      cause = λ c reason at e. many_cause (suc (c.limit - c.at)) s bd c reason at (omega arith) e;
     }
 
   -- a reason for which the octets before are never looked at
@@ -317,8 +361,8 @@ module _ (K : Reason → List ℕ → Type 0) where
     goes = λ c d v e.
         let p = (opaque_reads {m = rules_of bd.strict}).sound bd c d v (follows bd) e in
         let h = opaque_field.starts p.0 v p.2 in
-        (p.0, p.1, omega (arith, ap length h.2), λ l. opaque_within bd c d v e);
-    told = λ c reason at e. inl (opaque_ties bd c reason at e);
+        (p.0, p.1, omega (arith, ap length h.2), λ l. opaque_within bd c d v e, framed_path p.2.0);
+    cause = λ c reason at e. inl (opaque_ties bd c reason at e);
   }
 
 -- Members, and elements in any order.
@@ -334,27 +378,16 @@ module _ (K : Reason → List ℕ → Type 0) {A : Type 0} {f : Bound → Reader
 
 -- Contents that do not pass a test.
 
-by_ber : {id : ℕ} {b c : List ℕ} (strict : Bool) → Contains id strict b c → Contains id false b c
-by_ber false h = h
-by_ber true h = record {
-  identifier = h.identifier;
-  sizes = h.sizes;
-  parts = h.parts;
-  is_identifier = h.is_identifier;
-  is_length = h.is_length.is;
-  octets = h.octets;
-}
-
 module _ (id : ℕ) (P : List ℕ → Type 0) (test : List ℕ → Bool) (malformed : Reason) (known : (v : List ℕ) → test v ≡ false → P v → ⊥) where
   -- what was read is the element
   scalar_spells : (bd : Bound) (c d : Cursor) (v : List ℕ) → scalar_of id test malformed bd c ≡ Ok (v, d)
-      → (b : List ℕ) × Moves c b d × Contains id false b v
+      → (b : List ℕ) × Moves c b d × Contains id false b v × (test v ≡ true)
   unfolding scalar_of give_if
   scalar_spells bd c d v e =
       let s = bind_ok (primitive_of id bd) (give_if test malformed) c e in
       let k = primitive_spells id bd c s.1 s.0 s.2 in
       elim (branch (test s.0) (give s.0) (refuse malformed) s.1 (okay (v, d)) s.3) [
-        | inl x ↦ (k.0, subst (λ m. Moves c k.0 m) (ok_place x.1) k.1, subst (λ w. Contains id false k.0 w) (ok_value x.1) (by_ber bd.strict k.2))
+        | inl x ↦ (k.0, subst (λ m. Moves c k.0 m) (ok_place x.1) k.1, subst (λ w. Contains id false k.0 w) (ok_value x.1) (by_ber bd.strict k.2), subst (λ w. test w ≡ true) (ok_value x.1) x.0)
         | inr x ↦ absurd (let z = x.1 in cc)
       ]
 
@@ -370,10 +403,11 @@ module _ (id : ℕ) (P : List ℕ → Type 0) (test : List ℕ → Bool) (malfor
             subst (λ m. Moves c k.0 m) (ok_place x.1) k.1,
             k.2,
             subst (λ (m : Cursor). 1 ≤ length k.0 → EndsBefore bd.end m.at) (ok_place x.1) k.3,
+            k.4,
           )
           | inr x ↦ absurd (let z = x.1 in cc)
         ];
-    told = λ c reason at e. elim (bind_err (primitive_of id bd) (give_if test malformed) c e) [
+    cause = λ c reason at e. elim (bind_err (primitive_of id bd) (give_if test malformed) c e) [
       | inl x ↦ inl (at_once (primitive_ties id bd c x))
       | inr s ↦
           let k = primitive_spells id bd c s.1 s.0 s.2 in
@@ -390,12 +424,13 @@ module _ (id : ℕ) (P : List ℕ → Type 0) (test : List ℕ → Bool) (malfor
     ];
   }
 
-  -- a further test of them
-  pub constrained_explained : (Q : List ℕ → Type 0) (also : List ℕ → Bool) (refusal : Reason) → ((v : List ℕ) → also v ≡ false → Q v → ⊥)
-      → (bd : Bound) → Explained (either_says (says_malformed id P malformed) (says_malformed id Q refusal)) 1 bd
+  -- a further test of those that pass the first
+  pub constrained_explained : (passes : (v : List ℕ) → AreOctets v → test v ≡ true → P v) (Q : List ℕ → Type 0) (also : List ℕ → Bool) (refusal : Reason)
+      → ((v : List ℕ) → P v → also v ≡ false → Q v → ⊥) → (bd : Bound)
+      → Explained (either_says (says_malformed id P malformed) (says_element id (λ c. P c × (Q c → ⊥)) refusal)) 1 bd
       (scalar_of id test malformed bd >>= give_if also refusal)
   unfolding give_if
-  constrained_explained Q also refusal more bd = record {
+  constrained_explained passes Q also refusal more bd = record {
     goes = λ c d v e.
         let s = bind_ok (scalar_of id test malformed bd) (give_if also refusal) c e in
         let one = (scalar_explained bd).goes c s.1 s.0 s.2 in
@@ -405,11 +440,12 @@ module _ (id : ℕ) (P : List ℕ → Type 0) (test : List ℕ → Bool) (malfor
             subst (λ m. Moves c one.0 m) (ok_place x.1) one.1,
             one.2,
             subst (λ (m : Cursor). 1 ≤ length one.0 → EndsBefore bd.end m.at) (ok_place x.1) one.3,
+            one.4,
           )
           | inr x ↦ absurd (let z = x.1 in cc)
         ];
-    told = λ c reason at e. elim (bind_err (scalar_of id test malformed bd) (give_if also refusal) c e) [
-      | inl x ↦ told_wider (λ r b. inl) c reason at ((scalar_explained bd).told c reason at x)
+    cause = λ c reason at e. elim (bind_err (scalar_of id test malformed bd) (give_if also refusal) c e) [
+      | inl x ↦ cause_wider (λ r b. inl) c reason at ((scalar_explained bd).cause c reason at x)
       | inr s ↦
           let k = scalar_spells bd c s.1 s.0 s.2 in
           elim (branch (also s.0) (give s.0) (refuse refusal) s.1 (bad (stop reason at)) s.3) [
@@ -419,7 +455,7 @@ module _ (id : ℕ) (P : List ℕ → Type 0) (test : List ℕ → Bool) (malfor
               after = s.1;
               moves = k.1;
               here = stop_place x.1;
-              malformed = inr (s.0, sym (stop_reason x.1), k.2, more s.0 x.0);
+              malformed = (let p = passes s.0 k.2.octets k.3 in inr (s.0, sym (stop_reason x.1), k.2, (p, more s.0 p x.0)));
             })
           ]
     ];
@@ -440,16 +476,16 @@ consumed_to {old = old} {new = new} p b d q here =
     took.done ∙ ap (λ t. old.done ++ t) same.0
 
 module _ {K : Reason → List ℕ → Type 0} {A : Type 0} {f next : Reader A} {old new : State} (p : Simulates f old next new) (none : new.ahead ≡ None) where
-  last_says : (reason : Reason) (at : ℕ) → Told K (cursor old (p.more ++ [])) reason (length new.done) → SaysWhy K old new (faults.Refused reason at)
-  last_says reason at (inl t) = inl (t.prefix, tied p reason at (λ l. none) t.prefix t.last t.moves t.ties)
+  last_says : (reason : Reason) (at : ℕ) → HasCause K (cursor old (p.more ++ [])) reason (length new.done) → SaysWhy K old new (faults.Refused reason at)
+  last_says reason at (inl t) = inl (t.prefix, t.path, tied p reason at (λ l. none) t.prefix t.last t.moves t.ties)
   last_says reason at (inr m) =
       inr (record { octets = m.octets; taken = consumed_to p m.octets m.after m.moves m.here; none_kept = none; says = m.malformed })
 
 pub fault_says : {A : Type 0} {K : Reason → List ℕ → Type 0} {n : ℕ} {bd : Bound} {f : Reader A} → Explained K n bd f
     → (e : Fault) (old new : State) → Failed f old new e → SaysWhy K old new e
 fault_says h (faults.Refused reason at) old new g = elim g.explained.3 [
-  | inl free ↦ inl ([], inl (subst (λ n. NeedsNoOctets n (length new.done) reason) g.reaches.took.limit free))
-  | inr none ↦ last_says g.reaches none reason at (h.told (cursor old (g.reaches.more ++ [])) reason (length new.done)
+  | inl free ↦ inl ([], start, inl (subst (λ n. NeedsNoOctets n (length new.done) reason) g.reaches.took.limit free))
+  | inr none ↦ last_says g.reaches none reason at (h.cause (cursor old (g.reaches.more ++ [])) reason (length new.done)
       (g.reaches.refines [] ∙ g.explained.2 [] (λ _. refl)))
 ]
 fault_says h faults.Read old new g = tt

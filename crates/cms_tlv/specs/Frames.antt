@@ -1,6 +1,6 @@
 -- Frames (X.690, 8.1): an identifier, a length and that many octets, or what `00 00` ends.
 use Rattle.std.specs.Prelude.{◌≡◌, ℕ, List, [], ◌∷◌, ◌++◌, length}
-use Rattle.cms_tlv.specs.Headers.{IsConstructed, IsIdentifier, IsLength, IsShortLength}
+use Rattle.cms_tlv.specs.Headers.{IsConstructed, IsHeader, IsIdentifier, IsLength, IsShortLength}
 
 -- `b` begins with `00 00`, which ends indefinite contents (X.690, 8.1.5)
 abbrev pub IsEnd : List ℕ → Type 0
@@ -37,3 +37,11 @@ pub data IsDerElement : List ℕ → ℕ → List ℕ → Type 0 where
 pub data IsDerFrame : List ℕ → Type 0 where
   of_short_length : {t : ℕ} {i l : List ℕ} (c : List ℕ) → IsIdentifier t i
       → IsShortLength l (length c) → IsDerFrame (i ++ (l ++ c))
+
+--- `IsPath b`: `b` is what may be before an element: whole frames, and headers of the constructed
+---   elements that it is in, one after another [X.690, 8.1]
+--- | `00 00`, which ends indefinite contents, is such a frame
+pub data IsPath : List ℕ → Type 0 where
+  start : IsPath []
+  past : {f c : List ℕ} → Frame f → IsPath c → IsPath (f ++ c)
+  into : {id : ℕ} {h c : List ℕ} → IsHeader id h → IsConstructed id → IsPath c → IsPath (h ++ c)

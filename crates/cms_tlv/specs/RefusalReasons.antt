@@ -9,6 +9,7 @@ use Rattle.cms_tlv.specs.declared.fault.Reason.TheVariants.{OidMalformed, Boolea
 use Rattle.cms_tlv.specs.declared.fault.Reason.TheVariants.{BitsMalformed, NotSignedData, Trailing}
 use Rattle.cms_tlv.specs.declared.bound.Bound.{Bound}
 use Rattle.cms_tlv.specs.Clauses.{Contains, EndsBefore}
+use Rattle.cms_tlv.specs.Frames.{IsPath}
 use Rattle.cms_tlv.specs.Headers.{IsConstructed, IsHeader, IsIdentifier, IsLength}
 use Rattle.cms_tlv.specs.Reading.{Cursor, stop, Reader}
 use Rattle.cms_tlv.specs.Refines.{NeedsNoOctets}
@@ -38,7 +39,7 @@ HeaderSays limit at t l Trailing = ⊥
 HeaderSays limit at t l reason = Unit {0}
 
 --- `Lasts c reason at`, `Ties`, `TiesLast`: a pure reader stopped after such a header; or no octets
----   have to say why; the same of the last header
+---   have to say why; the same of the last header, after a path (`IsPath`)
 pub record Lasts (c : Cursor) (reason : Reason) (at : ℕ) : Type 0 where
   pub identifier : List ℕ
   pub sizes : List ℕ
@@ -52,9 +53,10 @@ pub record Lasts (c : Cursor) (reason : Reason) (at : ℕ) : Type 0 where
 abbrev pub Ties : Cursor → Reason → ℕ → Type 0
 Ties c reason at = NeedsNoOctets c.limit at reason ⊎ Lasts c reason at
 
--- the same of the last header, after other octets
+-- the same of the last header, after a path
 pub record TiesLast (c : Cursor) (reason : Reason) (at : ℕ) : Type 0 where
   pub prefix : List ℕ
+  pub path : IsPath prefix
   pub last : Cursor
   pub moves : Moves c prefix last
   pub ties : Ties last reason at
@@ -68,18 +70,18 @@ pub record Malforms (K : Reason → List ℕ → Type 0) (c : Cursor) (reason : 
   pub here : after.at ≡ at
   pub malformed : K reason octets
 
---- `Told K c reason at`: one of these
-abbrev pub Told : (Reason → List ℕ → Type 0) → Cursor → Reason → ℕ → Type 0
-Told K c reason at = TiesLast c reason at ⊎ Malforms K c reason at
+--- `HasCause K c reason at`: one of these
+abbrev pub HasCause : (Reason → List ℕ → Type 0) → Cursor → Reason → ℕ → Type 0
+HasCause K c reason at = TiesLast c reason at ⊎ Malforms K c reason at
 
---- `Explained K n bd f`: `f` takes at least `n` octets, and none past the bound `bd`; and each of
----   its refusals is `Told`
+--- `Explained K n bd f`: `f` takes at least `n` octets, none past the bound `bd`, which are a path;
+---   and each of its refusals `HasCause`
 pub record Explained (K : Reason → List ℕ → Type 0) {A : Type 0} (n : ℕ) (bd : Bound)
     (f : Reader A) : Type 0 where
   pub goes : (c d : Cursor) (v : A) → f c ≡ Ok (v, d) → (b : List ℕ) × Moves c b d × (n ≤ length b)
-      × (1 ≤ length b → EndsBefore bd.end d.at)
-  pub told : (c : Cursor) (reason : Reason) (at : ℕ) → f c ≡ Err (stop reason at)
-      → Told K c reason at
+      × (1 ≤ length b → EndsBefore bd.end d.at) × IsPath b
+  pub cause : (c : Cursor) (reason : Reason) (at : ℕ) → f c ≡ Err (stop reason at)
+      → HasCause K c reason at
 
 --- `IsFree reason`: with this reason no octets have to say why
 abbrev pub IsFree : Reason → Type 0
@@ -91,29 +93,35 @@ IsFree reason = (limit at : ℕ) → NeedsNoOctets limit at reason
 abbrev pub says_nothing : Reason → List ℕ → Type 0
 says_nothing reason b = ⊥
 
---- `says_malformed id P malformed`: an element with the identifier octet `id` whose contents are
----   not `P` is refused for the reason `malformed`, and nothing else [X.690, 8.1.1]
+--- `says_element id P refusal`: an element with the identifier octet `id` whose contents are `P` is
+---   refused for the reason `refusal`, and nothing else [X.690, 8.1.1]
+abbrev pub says_element : ℕ → (List ℕ → Type 0) → Reason → Reason → List ℕ → Type 0
+says_element id P refusal reason b =
+    (c : List ℕ) × (reason ≡ refusal) × Contains id false b c × P c
+
+--- `says_malformed id P malformed`: the same if the contents are not `P`
 abbrev pub says_malformed : ℕ → (List ℕ → Type 0) → Reason → Reason → List ℕ → Type 0
-says_malformed id P malformed reason b =
-    (c : List ℕ) × (reason ≡ malformed) × Contains id false b c × (P c → ⊥)
+says_malformed id P malformed = says_element id (λ c. P c → ⊥) malformed
 
 --- `either_says K L`: what one of the two says
 abbrev pub either_says : (Reason → List ℕ → Type 0) → (Reason → List ℕ → Type 0) → Reason → List ℕ
     → Type 0
 either_says K L reason b = K reason b ⊎ L reason b
 
---- `says_later K`: what `K` says, after any octets
+--- `says_later K`: what `K` says, after a path
 abbrev pub says_later : (Reason → List ℕ → Type 0) → Reason → List ℕ → Type 0
-says_later K reason b = (b₁ b₂ : List ℕ) × (b ≡ b₁ ++ b₂) × K reason b₂
+says_later K reason b = (b₁ b₂ : List ℕ) × (b ≡ b₁ ++ b₂) × IsPath b₁ × K reason b₂
 
---- `says_then K L`: what `K` says, or what `L` says after any octets
+--- `says_then K L`: what `K` says, or what `L` says after a path
 abbrev pub says_then : (Reason → List ℕ → Type 0) → (Reason → List ℕ → Type 0) → Reason → List ℕ
     → Type 0
 says_then K L = either_says K (says_later L)
 
---- `says_inside id K`: what `K` says, after the header of an element with the identifier octet `id`
+--- `says_inside id K`: what `K` says, after the header of a constructed element with the identifier
+---   octet `id`
 abbrev pub says_inside : ℕ → (Reason → List ℕ → Type 0) → Reason → List ℕ → Type 0
-says_inside id K reason b = (b₁ b₂ : List ℕ) × (b ≡ b₁ ++ b₂) × IsHeader id b₁ × K reason b₂
+says_inside id K reason b =
+    (b₁ b₂ : List ℕ) × (b ≡ b₁ ++ b₂) × IsHeader id b₁ × IsConstructed id × K reason b₂
 
 -- Calls.
 
@@ -136,9 +144,10 @@ Tied old new (faults.Refused reason at) =
     ⊎ HeaderTaken old new (λ t l. HeaderSays old.limit (length new.done) t l reason)
 Tied old new e = Unit {0}
 
---- `TiedLast old new f`: the same of the last header, if octets were taken before it
+--- `TiedLast old new f`: the same of the last header, if a path was taken before it
 abbrev pub TiedLast : State → State → Fault → Type 0
-TiedLast old new e = (before : List ℕ) × Tied (record old { done = old.done ++ before }) new e
+TiedLast old new e =
+    (before : List ℕ) × IsPath before × Tied (record old { done = old.done ++ before }) new e
 
 --- `OctetsSay old new P`: since `old`, octets with `P` were taken, and none is kept ahead
 pub record OctetsSay (old new : State) (P : List ℕ → Type 0) : Type 0 where

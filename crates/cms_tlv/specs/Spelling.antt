@@ -50,11 +50,11 @@ InOrder der bs = Ascends bs
 abbrev pub join : List (List ℕ) → List ℕ
 join bs = flat_map (λ b. b) bs
 
---- `rows R`: spellings by `R` one after another, in any order
+--- `rows R`: spellings by `R` of the values, one after another
 abbrev pub rows : {V : Type 0} → Spelling V → Spelling (List V)
 rows R b vs = (bs : List (List ℕ)) × (b ≡ join bs) × AllZip R bs vs
 
---- `members m R`: spellings by `R`, one after another, that are `InOrder` [X.690, 8.12, 11.6]
+--- `members m R`: the same, and the spellings are `InOrder` [X.690, 8.12, 11.6]
 abbrev pub members : {V : Type 0} → Rules → Spelling V → Spelling (List V)
 members m R b vs = (bs : List (List ℕ)) × (b ≡ join bs) × AllZip R bs vs × InOrder m bs
 
