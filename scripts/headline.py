@@ -360,13 +360,15 @@ If they are hopeless, they also say why (`SayWhy`), and it is not E18:
 - with E3, E4 and E5 they end in identifier octets and one length octet: FF; one of 89 to FE; or 80, if the identifier is primitive;
 - with E8, E9, E10 and E11 they end in an element 02, 06, 01 or 03, whose contents are not those of an INTEGER, OBJECT IDENTIFIER, BOOLEAN or
   BIT STRING, respectively;
-- with E17 they end in a header with the identifier octet 30, and an element 06 whose contents are not those of id-signedData;
+- with E17 they end in a header with the identifier octet 30, and an element 06 whose contents are those of another OBJECT IDENTIFIER than
+  id-signedData;
 - with E6, E7, E12 to E16 and E19 nothing more is said of them.
 
-`SayWhy` leaves open the position of that header or element, and whether the reader treats it as one: any octets may come before it.
-So it excludes a wrong reason only if the octets do not happen to end so: `30 04 04 02 02 00` ends in a malformed INTEGER, though no INTEGER is
-due there. Nor does this page say that the refusal is the first one that reading from left to right comes to. Both are fixed by another
-clause of `read_message`, `refines`, which names the pure readers.
+Before that header or element there is a path to it: whole frames, and headers of constructed elements (`IsPath`). So
+`30 04 04 02 02 00` does not end in a malformed INTEGER, since `04` is not constructed. `SayWhy` leaves open whether the path is one that a
+message has: `30 04 31 02 02 00` does end in a malformed INTEGER, though a message has none there, and the reader refuses the `31`
+(E7). Nor does this page say that the refusal is the first one that reading from left to right comes to. Both are fixed by another clause of
+`read_message`, `refines`, which names the pure readers.
 
 `written_or_refused` returns no other fault but `OutOfMemory`. No clause says when: a `both` that always returns none, and a `written_or_refused`
 that always says that memory ran out, would meet these contracts.

@@ -12,7 +12,7 @@ use Rattle.cms_canon.specs.declared.message.Tail.{Tail}
 use Rattle.cms_canon.specs.declared.message.Tail.TheVariants.{Refuse}
 use Rattle.cms_canon.specs.Checking.{AreFindings}
 use Rattle.cms_canon.specs.Covering.{CoversAttributes, cover_at}
-use Rattle.cms_canon.specs.Denotes.{IsWrittenFor}
+use Rattle.cms_canon.specs.Denotes.{IsAcceptedAs}
 use Rattle.cms_rows.specs.declared.kinds.TheConstants.{TST_INFO}
 use Rattle.cms_rows.specs.declared.row.Row.{Row}
 use Rattle.cms_rows.specs.Rows.{Show}
@@ -75,10 +75,10 @@ IsHandedOver {A} {E} Asked Fails SaysIt before after o =
     ⊎ ((e : E) × Fails e × SaysIt e o × (after ≡ before))
 
 --- `IsDerOfInput input limit octets`: the octets are what is written for the message in the input
----   (`IsWrittenFor`), and `KeepsReceived` holds
+---   (`IsAcceptedAs`), and `KeepsReceived` holds
 abbrev pub IsDerOfInput : List ℕ → ℕ → List ℕ → Type 0
 IsDerOfInput input limit octets =
-    IsWrittenFor whole_message same_message limit input octets × KeepsReceived input octets
+    IsAcceptedAs whole_message same_message limit input octets × KeepsReceived input octets
 
 --- `IsDerHandedOver input limit before after o`: such octets are handed over
 abbrev pub IsDerHandedOver : List ℕ → ℕ → List ℕ → List ℕ → Outcome → Type 0

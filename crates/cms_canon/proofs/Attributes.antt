@@ -2,7 +2,7 @@
 use Rattle.std.proofs.Common.{◌≡◌, ℕ, ◌+◌, ◌<◌, List, [], ◌∷◌, ◌++◌, Option, Some, None, option_map, option_to_list, slice_get, bytes_eq, inl, inr, refl, sym, ap, ◌∙◌, arith}
 use Rattle.std.specs.Option.{option_and_then}
 use Rattle.cms_tlv.specs.Spelling.{Rules, optional}
-use Rattle.cms_fields.specs.Received.{LieIn, times, in_option}
+use Rattle.cms_fields.specs.Received.{ArePartsOf, times, in_option}
 use Rattle.cms_fields.proofs.ReceivedLaws.{count_both}
 use Rattle.cms_message.specs.Cover.{as_set_of, attributes_along, content_given, cover, cover_along}
 use Rattle.cms_message.specs.Signers.{BorrowedSigner}
@@ -68,7 +68,7 @@ module _
       go (Some s) e = ap Some (covered s path a detached e)
 
   pub covers_attributes : (m : Rules) (b : List ℕ) (v : MessageValue) (path : List ℕ) (detached : Option (List ℕ))
-      → LieIn (whole_message m) opaque_in → whole_message m b v → CoversAttributes b v path (cover_at v path detached)
+      → ArePartsOf (whole_message m) opaque_in → whole_message m b v → CoversAttributes b v path (cover_at v path detached)
   covers_attributes m b v path detached parts s a e =
       let x = begin_so m b v path a s e in
-      (parts.lie b v s a (are_opaque v path a e), x.0, x.1, are_covered v path a detached e ∙ ap (λ z. Some (Some (Some (as_set_of z)))) x.1)
+      (parts.are_parts b v s a (are_opaque v path a e), x.0, x.1, are_covered v path a detached e ∙ ap (λ z. Some (Some (Some (as_set_of z)))) x.1)

@@ -23,7 +23,7 @@ use Rattle.cms_canon.specs.declared.many.ManyFault.{ManyFault}
 use Rattle.cms_canon.specs.declared.message.Tail.TheVariants as tails
 use Rattle.cms_canon.specs.Many.{Conversion, AreOnePiece, IsReadAhead, IsFaithful, messages_of, ders_of, ArePastEnd, IsAfter, StopsAt, ManyFaults, AreConverted, AreAllConverted}
 use Rattle.cms_canon.specs.internal.ManySteps.{InHand, Progress, Proceeds, NextFails, IsBeforeEnd, IsNext, IsShort, with_message, with_der, all_written, split_at_message, stopped}
-use Rattle.cms_canon.specs.Messages.{IsDerOf, IsRead, IsPast, IsRefused, Hopeless}
+use Rattle.cms_canon.specs.Messages.{IsDerOf, IsRead, IsAfterMessage, IsRefused, Hopeless}
 use Rattle.cms_canon.specs.Conversions.{command_limit}
 use Rattle.cms_canon.specs.Exact.{ExactFaults}
 use Rattle.cms_canon.specs.Streams.{Reading, Writing, between, since, Takes, HasEnded, WritesAll, WritesNone}
@@ -438,12 +438,12 @@ refused_short {limit = limit} {reason = reason} {at = at} h = elim (is_truncated
   | inr n ↦ go (h.refusal.hopeless n)
 ]
   where
-    past : (reason : Reason) → IsPast limit tails.Leave reason h.octets → length h.octets ≤ limit
+    past : (reason : Reason) → IsAfterMessage limit tails.Leave reason h.octets → length h.octets ≤ limit
     past reasons.TooLarge k = k.1.1
     past reasons.Trailing k = absurd (let z = k.0 in cc)
     past reason k = absurd k
 
-    go : (Hopeless limit h.octets × (length h.octets ≤ limit)) ⊎ IsPast limit tails.Leave reason h.octets → length h.octets ≤ limit
+    go : (Hopeless limit h.octets × (length h.octets ≤ limit)) ⊎ IsAfterMessage limit tails.Leave reason h.octets → length h.octets ≤ limit
     go (inl k) = k.1
     go (inr k) = past reason k
 

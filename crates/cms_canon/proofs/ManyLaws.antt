@@ -6,7 +6,7 @@ use Rattle.cms_tlv.specs.Law.{IsField}
 use Rattle.cms_tlv.specs.Spelling.{ber, Rules, Spelling}
 use Rattle.cms_fields.specs.Canonical.{IsByDer}
 use Rattle.std.proofs.Common.{Bool}
-use Rattle.cms_canon.specs.Denotes.{Accepts, IsWrittenFor}
+use Rattle.cms_canon.specs.Denotes.{Accepts, IsAcceptedAs}
 use Rattle.cms_canon.specs.Kinds.{whole_message, same_message}
 use Rattle.cms_canon.specs.Many.{Conversion, IsFaithful, messages_of, ders_of, AreSame}
 use Rattle.cms_canon.proofs.Headline.{IsMessageKind, one_output}
@@ -26,7 +26,7 @@ larger_accepts limit larger b v l a = record {
 }
 
 pub larger_written : {V : Type 0} {R : Rules → Spelling V} {s : V → V → Bool} (limit larger : ℕ) (b o : List ℕ) → limit ≤ larger
-    → IsWrittenFor R s limit b o → IsWrittenFor R s larger b o
+    → IsAcceptedAs R s limit b o → IsAcceptedAs R s larger b o
 larger_written limit larger b o l w =
     record {
       read = w.read;

@@ -13,8 +13,8 @@ use Rattle.cms_canon.specs.declared.convert.Done.{Done}
 use Rattle.cms_canon.specs.declared.message.Tail.{Tail}
 use Rattle.cms_canon.specs.declared.message.Tail.TheVariants as tails
 use Rattle.cms_canon.specs.Conversions.{IsCanonicalised}
-use Rattle.cms_canon.specs.Denotes.{EndThemselves, IsReadAlone, IsWrittenFor}
-use Rattle.cms_canon.specs.Messages.{IsMessage, IsPast, IsRefused, Hopeless}
+use Rattle.cms_canon.specs.Denotes.{EndThemselves, IsReadAlone, IsAcceptedAs}
+use Rattle.cms_canon.specs.Messages.{IsMessage, IsAfterMessage, IsRefused, Hopeless}
 use Rattle.cms_canon.specs.Prefixes.{IsReadAgain}
 use Rattle.cms_canon.specs.Streams.{Reading, Writing, WritesAll}
 use Rattle.cms_canon.proofs.Headline.{IsMessageKind, written_short, written_again, der_unchanged}
@@ -56,7 +56,7 @@ is_truncated reasons.Trailing = inr (λ e. absurd cc)
 is_truncated reasons.CountersignTooDeep = inr (λ e. absurd cc)
 
 module _ {P : ℕ → Type 0} (fields : IsField P (whole_message ber)) (by_der : IsByDer same_message whole_message) (limit : ℕ)
-    (b o rest : List ℕ) (h : IsWrittenFor whole_message same_message limit b o) where
+    (b o rest : List ℕ) (h : IsAcceptedAs whole_message same_message limit b o) where
   kind : IsMessageKind whole_message same_message
   kind = message_kind fields by_der
 
@@ -75,11 +75,11 @@ module _ {P : ℕ → Type 0} (fields : IsField P (whole_message ber)) (by_der :
       let l = left_of (o ++ rest) c.message.octets r.left_before r.left_after e c.is_read.taken in
       let k = end_themselves fields o c.message.octets rest l.0 h.written c.message.value spelled c.is_read.message.0 l.2 in
       let same : c.octets ≡ o =
-      (written_again kind limit b o h).1 c.octets (subst (λ t. IsWrittenFor whole_message same_message limit t c.octets) (sym k.0)
+      (written_again kind limit b o h).1 c.octets (subst (λ t. IsAcceptedAs whole_message same_message limit t c.octets) (sym k.0)
       c.is_written) in
       (l.1 ∙ ap Some (sym k.2), subst (WritesAll w) same c.written_all, c.read ∙ ap length (sym k.0), c.written ∙ ap length same)
 
-  past : (tail : Tail) (reason : Reason) (octets ys : List ℕ) → o ++ rest ≡ octets ++ ys → IsPast limit tail reason octets
+  past : (tail : Tail) (reason : Reason) (octets ys : List ℕ) → o ++ rest ≡ octets ++ ys → IsAfterMessage limit tail reason octets
       → (reason ≡ reasons.Trailing) × (tail ≡ tails.Refuse) × (rest ≢ [])
   past tail reasons.TooLarge octets ys e p =
       let k = end_themselves fields o octets rest ys h.written p.0 spelled p.1.0 e in
@@ -118,7 +118,7 @@ module _ {P : ℕ → Type 0} (fields : IsField P (whole_message ber)) (by_der :
           tail_nil (x ∷ p) q e = absurd cc
       go ys a parts (inr n) = either (f.refusal.hopeless n)
         where
-          either : (Hopeless limit f.octets × (length f.octets ≤ limit)) ⊎ IsPast limit tail reason f.octets
+          either : (Hopeless limit f.octets × (length f.octets ≤ limit)) ⊎ IsAfterMessage limit tail reason f.octets
               → (reason ≡ reasons.Trailing) × (tail ≡ tails.Refuse) × (rest ≢ [])
           either (inl p) = absurd (p.0 ys o rest h.written (sym parts) message)
           either (inr p) = past tail reason f.octets ys parts p

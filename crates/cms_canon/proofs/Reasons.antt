@@ -8,7 +8,8 @@ use Rattle.cms_tlv.specs.State.{State, Advance, as_list}
 use Rattle.cms_tlv.specs.Refines.{NeedsNoOctets}
 use Rattle.cms_tlv.specs.Headers.{IsHeader, IsLength}
 use Rattle.cms_tlv.specs.RefusalReasons.{either_says, IsFree, HeaderTaken, TiedLast, SaysWhy}
-use Rattle.cms_tlv.specs.Frames.{IsElement}
+use Rattle.cms_tlv.specs.Frames.{IsElement, IsPath}
+use Rattle.cms_tlv.proofs.Paths.{header_path}
 use Rattle.cms_tlv.proofs.FrameLaws.{identifier_some}
 use Rattle.cms_tlv.proofs.SpellingLaws.{element_starts}
 use Rattle.cms_scalars.specs.Malformed.{EndInElement, EndInContentType, IsMalformed}
@@ -23,13 +24,13 @@ use Rattle.cms_canon.specs.Reasons.{EndInHeader, SayWhy}
 use Rattle.cms_canon.specs.internal.Steps.{fresh}
 
 pub message_malformed : AreMalformed message.malformed
-message_malformed = record { within = λ reason b x. subst (IsMalformed reason) (sym x.2) (inside_it reason x.0 x.1 x.3 x.4) }
+message_malformed = record { within = λ reason b x. subst (IsMalformed reason) (sym x.2) (inside_it reason x.0 x.1 x.3 x.5) }
   where
     inside_it : (reason : Reason) (header b : List ℕ) → IsHeader 0x30 header
         → either_says content_info_fields.malformed (either_says time_stamp_req_fields.malformed time_stamp_resp_fields.malformed) reason b
         → IsMalformed reason (header ++ b)
     inside_it reason header b h (inl x) = fields_in reason header b h x
-    inside_it reason header b h (inr x) = after reason header b ((both (in_turn integer request_rest) response).within reason b x)
+    inside_it reason header b h (inr x) = after reason b (header_path h (omega arith)) ((both (in_turn integer request_rest) response).within reason b x)
 
 later : (limit a b : ℕ) (reason : Reason) → a ≤ b → NeedsNoOctets limit a reason → NeedsNoOctets limit b reason
 later limit a b TooLarge l h = omega arith
@@ -54,13 +55,14 @@ module _ (left : Option (List ℕ)) (failures limit : ℕ) (s : State) (more : L
       later limit (length s.done) (length more) reason (omega
       (arith, ap length t.order, ap length t.done, length-append t.read (as_list s.ahead))) x
 
-  in_header : {before : List ℕ} {P : ℕ → List ℕ → Type 0} → HeaderTaken (record (fresh left failures limit) { done = before }) s P → EndInHeader more P
-  in_header {before = before} h = record {
+  in_header : {before : List ℕ} {P : ℕ → List ℕ → Type 0} → IsPath before → HeaderTaken (record (fresh left failures limit) { done = before }) s P → EndInHeader more P
+  in_header {before = before} p h = record {
     before = before;
     identifier = h.identifier;
     sizes = h.sizes;
     first = h.first;
     are = all_done h.none_kept ∙ h.taken;
+    is_path = p;
     is_identifier = h.is_identifier;
     says = h.says;
   }
@@ -71,26 +73,26 @@ module _ (left : Option (List ℕ)) (failures limit : ℕ) (s : State) (more : L
   all_there h = sym (ap length (all_done h.none_kept))
 
   tied_says : (reason : Reason) (at : ℕ) → (t : TiedLast (fresh left failures limit) s (faults.Refused reason at)) → SayWhy limit reason more
-  tied_says TooLarge at (before, inl x) = inl (lacks_more TooLarge x)
-  tied_says TooLarge at (before, inr h) = inr (subst (λ n. EndInHeader more (λ t l. (m : ℕ) × IsLength l m × (limit < n + m))) (all_there h) (in_header h))
-  tied_says LengthReserved at (before, inl x) = absurd x
-  tied_says LengthReserved at (before, inr h) = in_header h
-  tied_says LengthTooLong at (before, inl x) = absurd x
-  tied_says LengthTooLong at (before, inr h) = in_header h
-  tied_says IndefinitePrimitive at (before, inl x) = absurd x
-  tied_says IndefinitePrimitive at (before, inr h) = in_header h
-  tied_says IntegerMalformed at (before, inl x) = absurd x
-  tied_says IntegerMalformed at (before, inr h) = absurd h.says
-  tied_says OidMalformed at (before, inl x) = absurd x
-  tied_says OidMalformed at (before, inr h) = absurd h.says
-  tied_says BooleanMalformed at (before, inl x) = absurd x
-  tied_says BooleanMalformed at (before, inr h) = absurd h.says
-  tied_says BitsMalformed at (before, inl x) = absurd x
-  tied_says BitsMalformed at (before, inr h) = absurd h.says
-  tied_says NotSignedData at (before, inl x) = absurd x
-  tied_says NotSignedData at (before, inr h) = absurd h.says
-  tied_says Trailing at (before, inl x) = absurd x
-  tied_says Trailing at (before, inr h) = absurd h.says
+  tied_says TooLarge at (before, p, inl x) = inl (lacks_more TooLarge x)
+  tied_says TooLarge at (before, p, inr h) = inr (subst (λ n. EndInHeader more (λ t l. (m : ℕ) × IsLength l m × (limit < n + m))) (all_there h) (in_header p h))
+  tied_says LengthReserved at (before, p, inl x) = absurd x
+  tied_says LengthReserved at (before, p, inr h) = in_header p h
+  tied_says LengthTooLong at (before, p, inl x) = absurd x
+  tied_says LengthTooLong at (before, p, inr h) = in_header p h
+  tied_says IndefinitePrimitive at (before, p, inl x) = absurd x
+  tied_says IndefinitePrimitive at (before, p, inr h) = in_header p h
+  tied_says IntegerMalformed at (before, p, inl x) = absurd x
+  tied_says IntegerMalformed at (before, p, inr h) = absurd h.says
+  tied_says OidMalformed at (before, p, inl x) = absurd x
+  tied_says OidMalformed at (before, p, inr h) = absurd h.says
+  tied_says BooleanMalformed at (before, p, inl x) = absurd x
+  tied_says BooleanMalformed at (before, p, inr h) = absurd h.says
+  tied_says BitsMalformed at (before, p, inl x) = absurd x
+  tied_says BitsMalformed at (before, p, inr h) = absurd h.says
+  tied_says NotSignedData at (before, p, inl x) = absurd x
+  tied_says NotSignedData at (before, p, inr h) = absurd h.says
+  tied_says Trailing at (before, p, inl x) = absurd x
+  tied_says Trailing at (before, p, inr h) = absurd h.says
   tied_says reason at h = tt
 
   malformed_says : (reason : Reason) → IsMalformed reason more → SayWhy limit reason more

@@ -4,7 +4,7 @@ use Rattle.std.specs.Prelude.{IfSome}
 use Rattle.std.specs.Option.{option_eq, option_and_then, option_or}
 use Rattle.std.specs.Cmp.{second_so}
 use Rattle.cms_tlv.specs.Spelling.{Rules}
-use Rattle.cms_fields.specs.Received.{IsPart, times, LieIn, CountedAlike}
+use Rattle.cms_fields.specs.Received.{IsPart, times, ArePartsOf, CountedAlike}
 use Rattle.cms_fields.proofs.ReceivedLaws.{both}
 use Rattle.cms_message.specs.SignedData.{encap_content_info, e_content}
 use Rattle.cms_message.specs.ContentInfo.{ContentInfo, content, content_info}
@@ -18,14 +18,14 @@ use Rattle.cms_canon.specs.Kinds.{MessageValue, message, whole_message, same_mes
 use Rattle.cms_canon.specs.Received.{opaque_in, content_in, IsImprintIn, covers_in}
 
 -- each kind is spelled as its record
-pub message_parts : (m : Rules) → LieIn (content_info.spelled m) in_content_info → LieIn (time_stamp_req.spelled m) in_time_stamp_req
-    → LieIn (time_stamp_resp.spelled m) in_time_stamp_resp → LieIn (whole_message m) opaque_in
-message_parts m h k l = record { lie = go }
+pub message_parts : (m : Rules) → ArePartsOf (content_info.spelled m) in_content_info → ArePartsOf (time_stamp_req.spelled m) in_time_stamp_req
+    → ArePartsOf (time_stamp_resp.spelled m) in_time_stamp_resp → ArePartsOf (whole_message m) opaque_in
+message_parts m h k l = record { are_parts = go }
   where
     go : (b : List ℕ) (v : MessageValue) → whole_message m b v → (z : List ℕ) → 0 < times z (opaque_in v) → IsPart z b
-    go b (inl v) s z n = h.lie b v s z n
-    go b (inr (inl v)) s z n = k.lie b v s z n
-    go b (inr (inr v)) s z n = l.lie b v s z n
+    go b (inl v) s z n = h.are_parts b v s z n
+    go b (inr (inl v)) s z n = k.are_parts b v s z n
+    go b (inr (inr v)) s z n = l.are_parts b v s z n
 
 same_signed : (v w : MessageValue) → same_message v w ≡ true → option_eq content_info.same (signed_in v) (signed_in w) ≡ true
 same_signed (inl v) (inl w) e = e

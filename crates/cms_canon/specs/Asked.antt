@@ -1,11 +1,13 @@
 -- The digests that a message asks for of what is not attached to it.
-use Rattle.std.specs.Prelude.{List, ℕ, [], Option, Some, None, Bool}
+use Rattle.std.specs.Prelude.{◌≡◌, ◌⊎◌, List, ℕ, [], Option, Some, None, Bool, true, option_to_list}
+use Rattle.std.specs.List.{Contains}
 use Rattle.std.specs.Option.{option_and_then}
 use mathlib.Core.Logic.{inl, inr}
 use Rattle.cms_message.specs.SignedData.{SignedData, encap_content_info, e_content}
 use Rattle.cms_tsp.specs.Requests.{imprint}
-use Rattle.cms_tsp.specs.TstInfo.{TstInfo}
+use Rattle.cms_tsp.specs.TstInfo.{TstInfo, IsTstInfoOf}
 use Rattle.cms_check.specs.declared.digests.HashAlg.{HashAlg}
+use Rattle.cms_check.specs.declared.digests.Hashed.{Hashed}
 use Rattle.cms_check.specs.Asked.{digests_asked, digest_asked_by, needs_octets}
 use Rattle.cms_check.specs.Rules.{passes}
 use Rattle.cms_check.specs.Tokens.{token_content, imprint_algorithm}
@@ -35,3 +37,23 @@ abbrev pub asked_of_data : MessageValue → Option TstInfo → Option HashAlg
 asked_of_data (inl v) read = digest_asked_by read
 asked_of_data (inr (inl v)) read = imprint_algorithm (imprint v)
 asked_of_data (inr (inr v)) read = digest_asked_by read
+
+--- `Lacks asked given`: digests are given, and none by an algorithm that is asked for
+abbrev pub Lacks : List HashAlg → Option (List (HashAlg × Hashed)) → Type 0
+Lacks asked None = ⊥
+Lacks asked (Some digests) =
+    (h : HashAlg) × Contains asked h × ((d : Hashed) → Contains digests (h, d) → ⊥)
+
+--- `LacksDigest v detached stamped`: the digests given of the content, or of the data that were
+---   time-stamped, are without one that the message asks for
+abbrev pub LacksDigest : MessageValue → Option (List (HashAlg × Hashed))
+    → Option (List (HashAlg × Hashed)) → Type 0
+LacksDigest v detached stamped =
+    Lacks (asked_of_content v) detached
+    ⊎ ((read : Option TstInfo) × IsTstInfoOf (tst_content_attached v) read
+    × Lacks (option_to_list (asked_of_data v read)) stamped)
+
+--- `LacksOctets v detached`: digests of the content are given, and it is needed as octets
+abbrev pub LacksOctets : MessageValue → Option (List (HashAlg × Hashed)) → Type 0
+LacksOctets v None = ⊥
+LacksOctets v (Some digests) = needs_content v ≡ true

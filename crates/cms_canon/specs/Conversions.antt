@@ -7,7 +7,7 @@ use Rattle.cms_canon.specs.Received.{KeepsReceived}
 use Rattle.cms_canon.specs.declared.convert.Done.{Done}
 use Rattle.cms_canon.specs.declared.message.Tail.{Tail}
 use Rattle.cms_canon.specs.declared.message.Tail.TheVariants as tails
-use Rattle.cms_canon.specs.Denotes.{IsWrittenFor}
+use Rattle.cms_canon.specs.Denotes.{IsAcceptedAs}
 use Rattle.cms_canon.specs.Exact.{ExactFaults}
 use Rattle.cms_canon.specs.Messages.{IsDerOf, IsRead}
 use Rattle.cms_canon.specs.Streams.{Reading, Writing, WritesAll, WritesPart, WritesNone}
@@ -20,7 +20,7 @@ pub record IsCanonicalised (r : Reading) (w : Writing) (limit : ℕ) (tail : Tai
   pub message : Whole
   pub is_read : IsRead r limit tail message
   pub octets : List ℕ
-  pub is_written : IsWrittenFor whole_message same_message limit message.octets octets
+  pub is_written : IsAcceptedAs whole_message same_message limit message.octets octets
   pub short : length octets ≤ limit
   pub written_all : WritesAll w octets
   pub received : KeepsReceived message.octets octets

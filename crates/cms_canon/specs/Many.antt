@@ -10,7 +10,7 @@ use Rattle.cms_canon.specs.declared.many.Many.{Many}
 use Rattle.cms_canon.specs.declared.many.ManyFault.{ManyFault}
 use Rattle.cms_canon.specs.declared.message.Tail.TheVariants as tails
 use Rattle.cms_canon.specs.Conversions.{command_limit, fault_status}
-use Rattle.cms_canon.specs.Denotes.{Denotes, IsWrittenFor}
+use Rattle.cms_canon.specs.Denotes.{Denotes, IsAcceptedAs}
 use Rattle.cms_canon.specs.Exact.{ExactFaults}
 use Rattle.cms_canon.specs.Given.{second_part}
 use Rattle.cms_canon.specs.Kinds.{MessageValue, whole_message, same_message}
@@ -24,10 +24,10 @@ pub record Conversion : Type 0 where
   pub message : List ℕ
   pub der : List ℕ
 
---- `IsFaithful limit c`: `c.der` is what is written for `c.message` (`IsWrittenFor`) and has at
+--- `IsFaithful limit c`: `c.der` is what is written for `c.message` (`IsAcceptedAs`) and has at
 ---   most `limit` octets, and `KeepsReceived` holds of both
 pub record IsFaithful (limit : ℕ) (c : Conversion) : Type 0 where
-  pub is_written : IsWrittenFor whole_message same_message limit c.message c.der
+  pub is_written : IsAcceptedAs whole_message same_message limit c.message c.der
   pub short : length c.der ≤ limit
   pub received : KeepsReceived c.message c.der
 

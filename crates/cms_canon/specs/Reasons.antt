@@ -5,17 +5,19 @@ use Rattle.cms_tlv.specs.declared.fault.Reason.TheVariants.{TooLarge, LengthRese
 use Rattle.cms_tlv.specs.declared.fault.Reason.TheVariants.{IndefinitePrimitive, IntegerMalformed}
 use Rattle.cms_tlv.specs.declared.fault.Reason.TheVariants.{OidMalformed, BooleanMalformed}
 use Rattle.cms_tlv.specs.declared.fault.Reason.TheVariants.{BitsMalformed, NotSignedData, Trailing}
+use Rattle.cms_tlv.specs.Frames.{IsPath}
 use Rattle.cms_tlv.specs.Headers.{IsConstructed, IsIdentifier, IsLength}
 use Rattle.cms_scalars.specs.Malformed.{IsMalformed}
 
---- `EndInHeader octets P`: they end in identifier octets that begin with `first`, then `sizes`,
----   with `P first sizes`
+--- `EndInHeader octets P`: they are a path to an element, its identifier octets, which begin with
+---   `first`, and `sizes`, with `P first sizes` [X.690, 8.1.2, 8.1.3]
 pub record EndInHeader (octets : List ℕ) (P : ℕ → List ℕ → Type 0) : Type 0 where
   pub before : List ℕ
   pub identifier : List ℕ
   pub sizes : List ℕ
   pub first : ℕ
   pub are : octets ≡ before ++ (identifier ++ sizes)
+  pub is_path : IsPath before
   pub is_identifier : IsIdentifier first identifier
   pub says : P first sizes
 

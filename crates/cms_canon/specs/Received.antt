@@ -49,4 +49,4 @@ pub record KeepsReceived (b o : List ℕ) : Type 0 where
   pub written : MessageValue
   pub der_spells : whole_message der o written
   pub kept : HaveTheSame read written
-  pub lie : (z : List ℕ) → 0 < times z (opaque_in read) → IsPart z b × IsPart z o
+  pub are_parts : (z : List ℕ) → 0 < times z (opaque_in read) → IsPart z b × IsPart z o

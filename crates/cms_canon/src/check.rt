@@ -1,12 +1,14 @@
 //! `check`: which rules a message breaks, by what is given with it, or by what a reader has: detached
 //! content, or data that were time-stamped.
-ghost use Rattle.std.specs.Prelude.{◌≡◌, ◌≤◌, ◌^◌, List, ℕ, Option, Some, None, if◌then◌else◌, IfOk, IfErr};
+ghost use Rattle.std.specs.Prelude.{◌≡◌, ◌≤◌, ◌^◌, ◌↔◌, List, ℕ, true, Option, Some, None, Err, if◌then◌else◌, IfOk, IfErr};
 ghost use Rattle.std.specs.Option.{option_copied};
 ghost use Rattle.cms_tlv.specs.declared.fault.Fault.TheVariants.{OutOfMemory};
 ghost use Rattle.cms_check.specs.declared.report.Finding.{Finding};
 ghost use Rattle.cms_check.specs.declared.verifier.Verdict.TheVariants.{Unknown};
 ghost use Rattle.cms_check.specs.Digests.{AreDigestsOf};
 ghost use Rattle.cms_check.specs.Known.{Correspond};
+ghost use Rattle.cms_check.specs.declared.known.NoReport.TheVariants.{NoDigest, NoOctets};
+ghost use Rattle.cms_canon.specs.Asked.{Lacks, LacksDigest, LacksOctets};
 ghost use Rattle.cms_canon.specs.Answers.{AfterFaults, AreFoundAfter, IsChecked, reads_rest, tail_before};
 ghost use Rattle.cms_canon.specs.Checking.{AreFindings, has_fault};
 ghost use Rattle.cms_canon.specs.Given.{GivenFaults};
@@ -19,7 +21,7 @@ use crate::digested::digests_from;
 use crate::message::{Message, Tail, View, read_message};
 use crate::rest::read_rest;
 use cms_check::{
-    Digests, Finding, Given, GivenDigests, NoReport, NoVerifier, Report, Verifier, check_digests,
+    Digests, Finding, Given, GivenDigests, HashAlg, NoReport, NoVerifier, Report, Verifier, check_digests,
     check_request, check_request_digests, check_response, check_response_digests,
 };
 use cms_command::After;
@@ -156,9 +158,82 @@ pub fn check_message<V: Verifier>(
 
 /// The same with a verifier that knows of no signature whether it is good, for whatever octets have the
 /// digests that are given: `asked_of_content` and `asked_of_data` say which it asks for, and
-/// `needs_content` whether the content is needed as octets. `NoDigest` if one that it asks for is not
-/// given, `NoOctets` if the content is needed as octets, and `OutOfMemory`.
+/// `needs_content` whether the content is needed as octets. `NoOctets` if digests of the content are
+/// given and it is needed as octets, else `NoDigest` if one that it asks for is not among those given,
+/// and `OutOfMemory`.
 pub fn check_message_digests(
+    alloc: Global,
+    message: &Message,
+    detached: Option<&Digests>,
+    stamped: Option<&Digests>,
+) -> Result<Report, NoReport>
+    ensures ok { IfOk result (λ r. (content octets : Option (List ℕ))
+        → Correspond AreDigestsOf (option_copied detached.entry) content
+        → Correspond AreDigestsOf (option_copied stamped.entry) octets
+        → AreFindings (λ job. Unknown) message.now.value content octets r) }
+    ensures no_octets { (result ≡ Err NoOctets)
+        ↔ LacksOctets message.now.value (option_copied detached.entry) }
+    ensures no_digest { result ≡ Err NoDigest → LacksDigest message.now.value
+        (option_copied detached.entry) (option_copied stamped.entry) }
+{
+    if detached.is_some() && needs_content(message) {
+        return Err(NoReport::NoOctets);
+    }
+    if lacks_digest(alloc, message, detached, stamped)? {
+        return Err(NoReport::NoDigest);
+    }
+    Ok(report_by_digests(alloc, message, detached, stamped)?)
+}
+
+/// Whether a digest that a message asks for is not among those given.
+fn lacks_digest(
+    alloc: Global,
+    message: &Message,
+    detached: Option<&Digests>,
+    stamped: Option<&Digests>,
+) -> Result<bool, AllocError>
+    ensures { IfOk result (λ lacks. lacks ≡ true → LacksDigest message.now.value
+        (option_copied detached.entry) (option_copied stamped.entry)) }
+{
+    Ok(lacks(detached, &asked_of_content(alloc, message)?)
+        || lacks(stamped, asked_of_data(alloc, message)?.as_slice()))
+}
+
+/// Whether digests are given, and none by one of these algorithms.
+fn lacks(given: Option<&Digests>, asked: &[HashAlg]) -> bool
+    ensures { result ≡ true → Lacks asked.now (option_copied given.entry) }
+{
+    let Some(digests) = given else {
+        return false;
+    };
+    for algorithm in asked {
+        if digests.by(*algorithm).is_none() {
+            return true;
+        }
+    }
+    false
+}
+
+/// The report by digests. An error means out of memory, if no digest lacks and the content is not needed
+/// as octets.
+fn report_by_digests(
+    alloc: Global,
+    message: &Message,
+    detached: Option<&Digests>,
+    stamped: Option<&Digests>,
+) -> Result<Report, AllocError>
+    ensures { IfOk result (λ r. (content octets : Option (List ℕ))
+        → Correspond AreDigestsOf (option_copied detached.entry) content
+        → Correspond AreDigestsOf (option_copied stamped.entry) octets
+        → AreFindings (λ job. Unknown) message.now.value content octets r) }
+{
+    match report_or_lack(alloc, message, detached, stamped) {
+        Ok(report) => Ok(report),
+        Err(_) => Err(AllocError),
+    }
+}
+
+fn report_or_lack(
     alloc: Global,
     message: &Message,
     detached: Option<&Digests>,

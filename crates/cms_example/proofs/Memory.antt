@@ -6,7 +6,7 @@ use Rattle.cms_tlv.specs.Spelling.{ber, der}
 use Rattle.cms_canon.specs.declared.message.Tail.TheVariants.{Refuse}
 use Rattle.cms_canon.specs.declared.convert.Done.{Done}
 use Rattle.cms_canon.specs.Conversions.{IsCanonicalised}
-use Rattle.cms_canon.specs.Denotes.{IsWrittenFor}
+use Rattle.cms_canon.specs.Denotes.{IsAcceptedAs}
 use Rattle.cms_canon.specs.Kinds.{MessageValue, whole_message, same_message}
 use Rattle.cms_canon.specs.Received.{KeepsReceived}
 use Rattle.cms_fields.specs.Writing.{Writes}
@@ -19,14 +19,14 @@ use Rattle.cms_canon.specs.Whole.{Whole}
 pub of_memory : (input rest output : List ℕ) (a b c d limit : ℕ) (done : Done)
     → IsCanonicalised (record { left_before = Some input; left_after = Some rest; failures_before = a; failures_after = b })
     (record { contents_before = Some []; contents_after = Some output; failures_before = c; failures_after = d }) limit Refuse done
-    → IsWrittenFor whole_message same_message limit input output
+    → IsAcceptedAs whole_message same_message limit input output
 of_memory input rest output a b c d limit done h =
     let all : h.message.octets ≡ input = sym (h.is_read.taken ∙ ap (λ t. h.message.octets ++ t) (h.is_read.ended refl) ∙ append-nil h.message.octets) in
     rw (← all, h.written_all.0) h.is_written
 
 -- the input was one message, and the output is its DER
 pub of_message : (input rest before output : List ℕ) (limit : ℕ) (m : Whole) → IsRead (between (Some input) 0 (Some rest) 0) limit Refuse m
-    → before ≡ [] → Writes (whole_message der) same_message m.value before output → IsWrittenFor whole_message same_message limit input output
+    → before ≡ [] → Writes (whole_message der) same_message m.value before output → IsAcceptedAs whole_message same_message limit input output
 of_message input rest before output limit m h none w =
     let all : m.octets ≡ input = sym (h.taken ∙ ap (λ t. m.octets ++ t) (h.ended refl) ∙ append-nil m.octets) in
     rw (← all, w.appended, none) record {
@@ -74,5 +74,5 @@ fault_of limit b given rest faults.OutOfMemory e h = tt
 -- what is opaque is kept
 pub kept_of :
     ((b o : List ℕ) (v w : MessageValue) → whole_message ber b v → whole_message der o w → same_message v w ≡ true → KeepsReceived b o)
-    → (limit : ℕ) (b o : List ℕ) → IsWrittenFor whole_message same_message limit b o → KeepsReceived b o
+    → (limit : ℕ) (b o : List ℕ) → IsAcceptedAs whole_message same_message limit b o → KeepsReceived b o
 kept_of law limit b o h = law b o h.read h.written h.accepted.spells h.der_spells h.same

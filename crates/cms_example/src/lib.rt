@@ -2,9 +2,9 @@
 //!
 //! ```text
 //! pub fn both(alloc: Global, a: &[u8], b: &[u8]) -> Option<(Vec<u8>, Vec<u8>)>
-//!     ensures der_of_a { IfSome result (λ p. IsWrittenFor whole_message same_message
+//!     ensures der_of_a { IfSome result (λ p. IsAcceptedAs whole_message same_message
 //!         (2 ^ 24) a.now p.0.items) }
-//!     ensures der_of_b { IfSome result (λ p. IsWrittenFor whole_message same_message
+//!     ensures der_of_b { IfSome result (λ p. IsAcceptedAs whole_message same_message
 //!         (2 ^ 24) b.now p.1.items) }
 //!     ensures same { IfSome result (λ p. (p.0.items ≡ p.1.items)
 //!         ↔ ((v : MessageValue) × Denotes whole_message same_message (2 ^ 24) a.now v
@@ -27,7 +27,7 @@
 //!   DER, and what may follow the message. It returns the reader as well. `Ok` says how many octets were
 //!   read and written; `Err` is a `Fault`, whose text is a line for a user.
 //! - To look into a message: `read_message` keeps it, and `Message::view` lends its fields.
-//! - **A law** is a function that does nothing: a caller calls it for its contract, as `alike` does.
+//! - **A law** is a function that does nothing: a caller calls it for its contract, as `are_one_message` does.
 //!
 //! The contract of `canonicalise` is about the reader and the writer, before and after the call. If
 //! their octets are known, as octets in memory are, it says which were read and which were written;
@@ -37,7 +37,7 @@
 mod sketches;
 
 ghost use Rattle.std.specs.Prelude.{◌≡◌, ◌^◌, ◌↔◌, IfSome, IfOk, IfErr, IsTrue};
-ghost use Rattle.cms_canon.specs.Denotes.{Denotes, IsReadAlone, IsWrittenFor};
+ghost use Rattle.cms_canon.specs.Denotes.{Denotes, IsReadAlone, IsAcceptedAs};
 ghost use Rattle.cms_canon.specs.Kinds.{MessageValue, whole_message, same_message};
 ghost use Rattle.cms_canon.specs.Messages.{FaultOf};
 ghost use Rattle.cms_canon.specs.Received.{KeepsReceived};
@@ -59,9 +59,9 @@ use std::alloc::Global;
 /// written again unchanged; and if octets follow it, no others with which the whole begins are a
 /// message.
 pub fn both(alloc: Global, a: &[u8], b: &[u8]) -> Option<(Vec<u8>, Vec<u8>)>
-    ensures der_of_a { IfSome result (λ p. IsWrittenFor whole_message same_message
+    ensures der_of_a { IfSome result (λ p. IsAcceptedAs whole_message same_message
         (2 ^ 24) a.now p.0.items) }
-    ensures der_of_b { IfSome result (λ p. IsWrittenFor whole_message same_message
+    ensures der_of_b { IfSome result (λ p. IsAcceptedAs whole_message same_message
         (2 ^ 24) b.now p.1.items) }
     ensures same { IfSome result (λ p. (p.0.items ≡ p.1.items)
         ↔ ((v : MessageValue) × Denotes whole_message same_message (2 ^ 24) a.now v
@@ -83,7 +83,7 @@ pub fn both(alloc: Global, a: &[u8], b: &[u8]) -> Option<(Vec<u8>, Vec<u8>)>
 /// memory runs out.
 #[tactic(auto, using(crate::proofs::Memory::of_memory))]
 pub fn written(alloc: Global, octets: &[u8]) -> Option<Vec<u8>>
-    ensures { IfSome result (λ o. IsWrittenFor whole_message same_message
+    ensures { IfSome result (λ o. IsAcceptedAs whole_message same_message
         (2 ^ 24) octets.now o.items) }
 {
     let mut writer = Watched::new(Vec::new(alloc));
@@ -101,7 +101,7 @@ pub fn written(alloc: Global, octets: &[u8]) -> Option<Vec<u8>>
 /// such a message. Or it is E1, and the input is a proper prefix of a frame; or E2, and the octets are a
 /// message whose DER is too long; or E18, and they are a message and one octet more.
 pub fn written_or_refused(alloc: Global, octets: &[u8]) -> Result<Vec<u8>, Fault>
-    ensures der { IfOk result (λ o. IsWrittenFor whole_message same_message
+    ensures der { IfOk result (λ o. IsAcceptedAs whole_message same_message
         (2 ^ 24) octets.now o.items) }
     ensures refused { IfErr result (FaultOf (2 ^ 24) octets.now) }
 {
@@ -115,7 +115,7 @@ pub fn written_or_refused(alloc: Global, octets: &[u8]) -> Result<Vec<u8>, Fault
 }
 
 /// Whether two inputs are the same message, with sets taken as multisets.
-pub fn alike(alloc: Global, a: &[u8], b: &[u8]) -> Option<bool>
+pub fn are_one_message(alloc: Global, a: &[u8], b: &[u8]) -> Option<bool>
     ensures { IfSome result (λ same. IsTrue same
         ↔ ((v : MessageValue) × Denotes whole_message same_message (2 ^ 24) a.now v
         × Denotes whole_message same_message (2 ^ 24) b.now v)) }

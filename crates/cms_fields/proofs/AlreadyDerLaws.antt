@@ -12,20 +12,20 @@ use Rattle.cms_tlv.specs.Refines.{RefinesWithValue, Failed}
 use Rattle.cms_tlv.specs.Law.{Reads, IsField}
 use Rattle.cms_tlv.proofs.OctetsTaken.{taking_reads}
 use Rattle.cms_fields.specs.Canonical.{IsCanonical, IsByDer, IsDerFramed}
-use Rattle.cms_fields.specs.Readers.{strict_of}
+use Rattle.cms_fields.specs.Readers.{already_der_of}
 use Rattle.cms_fields.specs.Writing.{IsWritten, Writes, HasLength, IsLengthOf}
 
 -- what the inner bound reads
 module _ {W : Type 0} (f : Bound → Reader W) (bd inner : Bound) (is : inner ≡ record bd { strict = true }) where
-  same_reader : taking f inner ≡ strict_of f bd
+  same_reader : taking f inner ≡ already_der_of f bd
   unfolding taking
   same_reader = ap (λ d. taking f d) is
 
-  pub strict_failed : {a b : State} {e : Fault} → Failed (taking f inner) a b e → Failed (strict_of f bd) a b e
+  pub strict_failed : {a b : State} {e : Fault} → Failed (taking f inner) a b e → Failed (already_der_of f bd) a b e
   strict_failed {a = a} {b = b} {e = e} q = subst (λ r. Failed r a b e) same_reader q
 
   pub strict_gave : {X : Type 0} {show : State → X → List ℕ × W} {a b : State} {x : X} → RefinesWithValue show (taking f inner) a b x
-      → RefinesWithValue show (strict_of f bd) a b x
+      → RefinesWithValue show (already_der_of f bd) a b x
   strict_gave {show = show} {a = a} {b = b} {x = x} q = subst (λ r. RefinesWithValue show r a b x) same_reader q
 
 module _ {V : Type 0} (R : Spelling V) where
@@ -37,7 +37,7 @@ module _ {V : Type 0} (R : Spelling V) where
     cut = λ bd c at i e. r.cut (record bd { strict = true }) c at refl e;
   }
 
-  pub strict_reads : {f : Bound → Reader V} (m : Rules) → Reads der R f → Reads m (with_octets R) (strict_of f)
+  pub strict_reads : {f : Bound → Reader V} (m : Rules) → Reads der R f → Reads m (with_octets R) (already_der_of f)
   strict_reads m r = taking_reads (under_strict m r)
 
   pub strict_field : {P : ℕ → Type 0} → IsField P R → IsField P (with_octets R)

@@ -15,8 +15,8 @@ use Rattle.cms_tlv.specs.RefusalReasons.{IsFree}
 use Rattle.cms_tlv.proofs.Why.{scalar_explained, opaque_explained, constrained_explained}
 use Rattle.cms_fields.specs.Readers.{constrained_of, last_of, last_optional_of}
 use Rattle.cms_fields.specs.Received.{IsOpaqueAmong}
-use Rattle.cms_fields.specs.Grammar.{Grammar, IsReadBy, FieldLaws, ContentsLaws, IsLawful, piece, tagged, primitive, where_only, constrained, opaque_element, opaque_among, strict, choice, then_by, optional_then, last, last_optional, contents_choice, selected}
-use Rattle.cms_fields.proofs.FirstOctetLaws.{is_octet, is_primitive}
+use Rattle.cms_fields.specs.Grammar.{Grammar, IsReadBy, FieldLaws, ContentsLaws, IsLawful, unread, tagged, primitive, where_only, constrained, opaque_element, opaque_among, already_der, choice, then_by, optional_then, last, last_optional, contents_choice, selected}
+use Rattle.cms_fields.proofs.FirstOctetLaws.{is_constructed, is_primitive}
 use Rattle.cms_fields.proofs.CanonicalLaws.{element_framed, where_framed, opaque_framed}
 use Rattle.cms_fields.proofs.DerLaws.{element_by_der, received_by_der, where_by_der, then_by_der, maybe_by_der, optional_by_der}
 use Rattle.cms_fields.proofs.ReaderLaws.{tagged_reads, tagged_field, begins_as, opaque_as_received, opaque_is_field, where_field, where_reads_to, where_begins, both_read, then_begins, maybe_both_read, maybe_begins, avoids, optional_begins}
@@ -25,7 +25,7 @@ use Rattle.cms_fields.proofs.ContentsChoiceLaws.{contents_clash, contents_choice
 use Rattle.cms_fields.proofs.ContentsChoiceLaws as chosen
 use Rattle.cms_fields.proofs.SelectedLaws.{by_value_contents, by_value_reads, by_value_by_der, followed_begins, selected_known}
 use Rattle.cms_fields.proofs.AmongLaws.{among_field, among_reads, among_framed}
-use Rattle.cms_fields.proofs.WhyFields.{holding_told, then_told, optional_then_told, last_told, last_optional_told, opaque_among_told, strict_told, choice_told, selected_told, constrained_contents_told}
+use Rattle.cms_fields.proofs.WhyFields.{holding_told, then_told, optional_then_told, last_told, last_optional_told, opaque_among_told, already_der_told, choice_told, selected_told, constrained_contents_told}
 use Rattle.cms_fields.proofs.AlreadyDerLaws.{strict_reads, strict_field, strict_framed, strict_by_der}
 
 no : {A : Type 0} {t : Bool} → t ≡ false → t ≡ true → A
@@ -44,12 +44,13 @@ read_but_by_der g b c ber n = b
 read_but_by_der g b c minimal n = c
 read_but_by_der g b c der n = absurd (n refl)
 
-pub lawful_piece : {V : Type 0} (R : Rules → Spelling V) (P : V → Type 0) (s : V → V → Bool) → IsLawful (piece R P s)
-lawful_piece R P s = record { field = λ e. no refl e; contents = λ e. no refl e }
+pub lawful_unread : {V : Type 0} (R : Rules → Spelling V) (P : V → Type 0) (s : V → V → Bool) → IsLawful (unread R P s)
+lawful_unread R P s = record { field = λ e. no refl e; contents = λ e. no refl e }
 
 pub lawful_tagged : {V : Type 0} (id : ℕ) (g : Grammar V) → IsLawful g → IsLawful (tagged id g)
 lawful_tagged id g h = field_lawful (tagged id g) refl (λ s.
-    let o = is_octet id (first_so _ _ s) in
+    let c = is_constructed id (first_so _ _ s) in
+    let o = c.0 in
     let k = h.contents (second_so _ _ s) in
     record {
       reads = λ m j. tagged_reads id o (k.reads_to m j);
@@ -57,7 +58,7 @@ lawful_tagged id g h = field_lawful (tagged id g) refl (λ s.
       is_value = λ m b v r. k.is_value m r.0 v r.2;
       by_der = element_by_der k.by_der id;
       framed = element_framed id o;
-      explained = holding_told id k.explained;
+      explained = holding_told id c.1 k.explained;
     })
 
 pub lawful_primitive : (id : ℕ) (P : List ℕ → Type 0) (test : List ℕ → Bool) (malformed : Reason) → malformed ≢ Truncated
@@ -94,8 +95,8 @@ lawful_among allowed = field_lawful (opaque_among allowed) refl (λ s. record {
   explained = opaque_among_told allowed;
 })
 
-pub lawful_strict : {V : Type 0} (g : Grammar V) → IsLawful g → IsLawful (strict g)
-lawful_strict g h = field_lawful (strict g) refl (λ s.
+pub lawful_already_der : {V : Type 0} (g : Grammar V) → IsLawful g → IsLawful (already_der g)
+lawful_already_der g h = field_lawful (already_der g) refl (λ s.
     let k = h.field s in
     record {
       reads = λ m j. strict_reads (g.spelled der) m (k.reads der j);
@@ -103,7 +104,7 @@ lawful_strict g h = field_lawful (strict g) refl (λ s.
       is_value = λ m b v r. (s, subst (λ o. g.spelled der o v.1) r.0 r.1);
       by_der = strict_by_der (g.spelled der) k.by_der.canonical k.by_der.equivalence;
       framed = strict_framed (g.spelled der) k.framed;
-      explained = strict_told k.explained;
+      explained = already_der_told k.explained;
     })
 
 pub lawful_choice : {V W : Type 0} (g : Grammar V) (h : Grammar W) → IsLawful g → IsLawful h → IsLawful (choice g h)
@@ -230,9 +231,10 @@ lawful_selected id P test malformed choose g h k n l = contents_lawful (selected
 pub lawful_constrained :
     (id : ℕ) (P : List ℕ → Type 0) (test : List ℕ → Bool) (malformed : Reason) (Q : List ℕ → Type 0) (also : List ℕ → Bool)
     (refusal : Reason) → refusal ≢ Truncated → ((v : List ℕ) → P v → also v ≡ true → Q v) → ((v : List ℕ) → P v → Q v → also v ≡ true)
-    → ((v : List ℕ) → P v → test v ≡ true) → IsLawful (primitive id P test malformed) → IsLawful (constrained id P test malformed Q also refusal)
+    → ((v : List ℕ) → AreOctets v → test v ≡ true → P v) → ((v : List ℕ) → P v → test v ≡ true) → IsLawful (primitive id P test malformed)
+    → IsLawful (constrained id P test malformed Q also refusal)
 unfolding constrained_of
-lawful_constrained id P test malformed Q also refusal told known tested passed h = field_lawful (constrained id P test malformed Q also refusal) refl (λ s.
+lawful_constrained id P test malformed Q also refusal told known tested passes passed h = field_lawful (constrained id P test malformed Q also refusal) refl (λ s.
     let p = h.field s in
     record {
       reads = λ m j. where_reads also refusal told (λ b v r. known v (p.is_value m b v r)) (λ b v r. tested v (p.is_value m b v r)) (p.reads m j);
@@ -241,7 +243,7 @@ lawful_constrained id P test malformed Q also refusal told known tested passed h
       by_der = where_by_der p.by_der Q;
       framed = where_framed Q p.framed;
       explained =
-          constrained_explained id P test malformed (λ v n x. no n (passed v x)) (λ v. P v × Q v) also refusal (λ v n x. no n (tested v x.0 x.1));
+          constrained_explained id P test malformed (λ v n x. no n (passed v x)) passes Q also refusal (λ v p n x. no n (tested v p x));
     })
 
 -- a further constraint on contents, decided by a test

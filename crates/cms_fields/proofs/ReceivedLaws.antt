@@ -12,8 +12,8 @@ use Rattle.cms_tlv.specs.Frames.{IsElement, of_length, to_end}
 use Rattle.cms_tlv.specs.Spelling.{Rules, der, Spelling, element, ◌⨟◌, optional, either, members, join, with_octets, ◌where_value◌}
 use Rattle.cms_tlv.proofs.SpellingLaws.{element_by}
 use Rattle.cms_fields.specs.Canonical.{IsCanonical}
-use Rattle.cms_fields.specs.Grammar.{Grammar, strict, is_either}
-use Rattle.cms_fields.specs.Received.{as_received, IsPart, times, in_option, in_either, LieIn, CountedAlike}
+use Rattle.cms_fields.specs.Grammar.{Grammar, already_der, is_either}
+use Rattle.cms_fields.specs.Received.{as_received, IsPart, times, in_option, in_either, ArePartsOf, CountedAlike}
 use Rattle.cms_fields.specs.Choices.{same_choice}
 use Rattle.cms_fields.specs.Selected.{then_by_value, either_by}
 
@@ -66,88 +66,88 @@ pub singles : (vs : List (List ℕ)) → flat_map (λ v. v ∷ []) vs ≡ vs
 singles [] = refl
 singles (v ∷ vs) = ap (λ t. v ∷ t) (singles vs)
 
-pub no_parts : {V : Type 0} {R : Spelling V} → LieIn R (λ v. [])
-no_parts = record { lie = λ b v s z h. absurd (omega arith) }
+pub no_parts : {V : Type 0} {R : Spelling V} → ArePartsOf R (λ v. [])
+no_parts = record { are_parts = λ b v s z h. absurd (omega arith) }
 
-pub received_parts : {P : List ℕ → Type 0} → LieIn (as_received P) (λ v. v ∷ [])
-received_parts = record { lie = λ b v s z h. subst (IsPart z) (sym s.0) (whole z v h) }
+pub received_parts : {P : List ℕ → Type 0} → ArePartsOf (as_received P) (λ v. v ∷ [])
+received_parts = record { are_parts = λ b v s z h. subst (IsPart z) (sym s.0) (whole z v h) }
 
-pub octets_parts : {V : Type 0} (R : Spelling V) → LieIn (with_octets R) (λ v. v.0 ∷ [])
-octets_parts R = record { lie = λ b v s z h. subst (IsPart z) (sym s.0) (whole z v.0 h) }
+pub octets_parts : {V : Type 0} (R : Spelling V) → ArePartsOf (with_octets R) (λ v. v.0 ∷ [])
+octets_parts R = record { are_parts = λ b v s z h. subst (IsPart z) (sym s.0) (whole z v.0 h) }
 
-module _ {V : Type 0} {R : Spelling V} {f : V → List (List ℕ)} (p : LieIn R f) where
-  pub element_parts : (m : Rules) (id : ℕ) → LieIn (element m id R) f
-  element_parts m id = record { lie = λ b v s z h. within z s.0 b (p.lie s.0 v s.2 z h) (contents_part (element_by m s.1)) }
+module _ {V : Type 0} {R : Spelling V} {f : V → List (List ℕ)} (p : ArePartsOf R f) where
+  pub element_parts : (m : Rules) (id : ℕ) → ArePartsOf (element m id R) f
+  element_parts m id = record { are_parts = λ b v s z h. within z s.0 b (p.are_parts s.0 v s.2 z h) (contents_part (element_by m s.1)) }
 
-  pub optional_parts : LieIn (optional R) (in_option f)
-  optional_parts = record { lie = go }
+  pub optional_parts : ArePartsOf (optional R) (in_option f)
+  optional_parts = record { are_parts = go }
     where
       go : (b : List ℕ) (o : Option V) → optional R b o → (z : List ℕ) → 0 < times z (in_option f o) → IsPart z b
       go b None s z h = absurd (omega arith)
-      go b (Some v) s z h = p.lie b v s z (let e = times_append z (f v) [] in let n : times z [] ≡ 0 = refl in omega (arith, e, n, h))
+      go b (Some v) s z h = p.are_parts b v s z (let e = times_append z (f v) [] in let n : times z [] ≡ 0 = refl in omega (arith, e, n, h))
 
-  pub where_parts : (Q : V → Type 0) → LieIn (R where_value Q) f
-  where_parts Q = record { lie = λ b v s z h. p.lie b v s.0 z h }
+  pub where_parts : (Q : V → Type 0) → ArePartsOf (R where_value Q) f
+  where_parts Q = record { are_parts = λ b v s z h. p.are_parts b v s.0 z h }
 
   row_parts : (bs : List (List ℕ)) (vs : List V) → AllZip R bs vs → (z : List ℕ) → 0 < times z (flat_map f vs) → IsPart z (join bs)
   row_parts [] [] a z h = absurd (omega arith)
   row_parts [] (v ∷ vs) a z h = absurd a
   row_parts (b ∷ bs) [] a z h = absurd a
   row_parts (b ∷ bs) (v ∷ vs) a z h = elim (among_either z (f v) (flat_map f vs) h) [
-    | inl l ↦ on_the_left z b (join bs) (p.lie b v a.0 z l)
+    | inl l ↦ on_the_left z b (join bs) (p.are_parts b v a.0 z l)
     | inr l ↦ on_the_right z b (join bs) (row_parts bs vs a.1 z l)
   ]
 
-  pub members_parts : (m : Rules) → LieIn (members m R) (flat_map f)
-  members_parts m = record { lie = λ b vs s z h. subst (IsPart z) (sym s.1) (row_parts s.0 vs s.2 z h) }
+  pub members_parts : (m : Rules) → ArePartsOf (members m R) (flat_map f)
+  members_parts m = record { are_parts = λ b vs s z h. subst (IsPart z) (sym s.1) (row_parts s.0 vs s.2 z h) }
 
-  pub then_parts : {W : Type 0} {S : Spelling W} {g : W → List (List ℕ)} → LieIn S g → LieIn (R ⨟ S) (λ v. f v.0 ++ g v.1)
+  pub then_parts : {W : Type 0} {S : Spelling W} {g : W → List (List ℕ)} → ArePartsOf S g → ArePartsOf (R ⨟ S) (λ v. f v.0 ++ g v.1)
   then_parts {g = g} q = record {
-    lie = λ b v s z h. subst (IsPart z) (sym s.2) (elim (among_either z (f v.0) (g v.1) h) [
-      | inl l ↦ on_the_left z s.0 s.1 (p.lie s.0 v.0 s.3 z l)
-      | inr l ↦ on_the_right z s.0 s.1 (q.lie s.1 v.1 s.4 z l)
+    are_parts = λ b v s z h. subst (IsPart z) (sym s.2) (elim (among_either z (f v.0) (g v.1) h) [
+      | inl l ↦ on_the_left z s.0 s.1 (p.are_parts s.0 v.0 s.3 z l)
+      | inr l ↦ on_the_right z s.0 s.1 (q.are_parts s.1 v.1 s.4 z l)
     ]);
   }
 
 -- of the first alone
-pub first_parts : {V W : Type 0} {R : Spelling V} (S : Spelling W) {f : V → List (List ℕ)} → LieIn R f → LieIn (R ⨟ S) (λ v. f v.0)
-first_parts S p = record { lie = λ b v s z h. subst (IsPart z) (sym s.2) (on_the_left z s.0 s.1 (p.lie s.0 v.0 s.3 z h)) }
+pub first_parts : {V W : Type 0} {R : Spelling V} (S : Spelling W) {f : V → List (List ℕ)} → ArePartsOf R f → ArePartsOf (R ⨟ S) (λ v. f v.0)
+first_parts S p = record { are_parts = λ b v s z h. subst (IsPart z) (sym s.2) (on_the_left z s.0 s.1 (p.are_parts s.0 v.0 s.3 z h)) }
 
-pub each_part : {P : List ℕ → Type 0} (m : Rules) → LieIn (members m (as_received P)) (λ vs. vs)
-each_part {P = P} m = record { lie = λ b vs s z h. (members_parts (received_parts {P = P}) m).lie b vs s z (subst (λ t. 0 < times z t) (sym (singles vs)) h) }
+pub each_part : {P : List ℕ → Type 0} (m : Rules) → ArePartsOf (members m (as_received P)) (λ vs. vs)
+each_part {P = P} m = record { are_parts = λ b vs s z h. (members_parts (received_parts {P = P}) m).are_parts b vs s z (subst (λ t. 0 < times z t) (sym (singles vs)) h) }
 
-pub maybe_part : {P : List ℕ → Type 0} → LieIn (optional (as_received P)) option_to_list
+pub maybe_part : {P : List ℕ → Type 0} → ArePartsOf (optional (as_received P)) option_to_list
 maybe_part {P = P} = record {
-  lie = λ b o s z h. (optional_parts (received_parts {P = P})).lie b o s z
+  are_parts = λ b o s z h. (optional_parts (received_parts {P = P})).are_parts b o s z
       (subst (λ t. 0 < times z t) (sym (singles (option_to_list o))) h);
 }
 
 -- of one kind or the other
-pub either_parts : {V W : Type 0} {R : Spelling V} {S : Spelling W} {f : V → List (List ℕ)} {g : W → List (List ℕ)} → LieIn R f → LieIn S g
-    → LieIn (either R S) (in_either f g)
-either_parts {V = V} {W = W} {R = R} {S = S} {f = f} {g = g} h k = record { lie = go }
+pub either_parts : {V W : Type 0} {R : Spelling V} {S : Spelling W} {f : V → List (List ℕ)} {g : W → List (List ℕ)} → ArePartsOf R f → ArePartsOf S g
+    → ArePartsOf (either R S) (in_either f g)
+either_parts {V = V} {W = W} {R = R} {S = S} {f = f} {g = g} h k = record { are_parts = go }
   where
     go : (b : List ℕ) (x : V ⊎ W) → either R S b x → (z : List ℕ) → 0 < times z (in_either f g x) → IsPart z b
-    go b (inl v) s z l = h.lie b v s z l
-    go b (inr w) s z l = k.lie b w s z l
+    go b (inl v) s z l = h.are_parts b v s z l
+    go b (inr w) s z l = k.are_parts b w s z l
 
 -- of the one, then of the other, by what the first value says
-pub followed_parts : {V W : Type 0} {R : Spelling V} {S : V → Spelling W} {f : V → List (List ℕ)} {g : W → List (List ℕ)} → LieIn R f
-    → ((v : V) → LieIn (S v) g) → LieIn (then_by_value R S) (λ v. f v.0 ++ g v.1)
+pub followed_parts : {V W : Type 0} {R : Spelling V} {S : V → Spelling W} {f : V → List (List ℕ)} {g : W → List (List ℕ)} → ArePartsOf R f
+    → ((v : V) → ArePartsOf (S v) g) → ArePartsOf (then_by_value R S) (λ v. f v.0 ++ g v.1)
 followed_parts {f = f} {g = g} p q = record {
-  lie = λ b v s z h. subst (IsPart z) (sym s.2) (elim (among_either z (f v.0) (g v.1) h) [
-    | inl l ↦ on_the_left z s.0 s.1 (p.lie s.0 v.0 s.3 z l)
-    | inr l ↦ on_the_right z s.0 s.1 ((q v.0).lie s.1 v.1 s.4 z l)
+  are_parts = λ b v s z h. subst (IsPart z) (sym s.2) (elim (among_either z (f v.0) (g v.1) h) [
+    | inl l ↦ on_the_left z s.0 s.1 (p.are_parts s.0 v.0 s.3 z l)
+    | inr l ↦ on_the_right z s.0 s.1 ((q v.0).are_parts s.1 v.1 s.4 z l)
   ]);
 }
 
 pub selected_parts : {V W : Type 0} {R : Spelling V} {S : Spelling W} {f : V → List (List ℕ)} {g : W → List (List ℕ)} (t : Bool)
-    → LieIn R f → LieIn S g → LieIn (either_by t R S) (in_either f g)
-selected_parts {V = V} {W = W} {R = R} {S = S} {f = f} {g = g} t h k = record { lie = go }
+    → ArePartsOf R f → ArePartsOf S g → ArePartsOf (either_by t R S) (in_either f g)
+selected_parts {V = V} {W = W} {R = R} {S = S} {f = f} {g = g} t h k = record { are_parts = go }
   where
     go : (b : List ℕ) (x : V ⊎ W) → either_by t R S b x → (z : List ℕ) → 0 < times z (in_either f g x) → IsPart z b
-    go b (inl v) s z l = h.lie b v s.1 z l
-    go b (inr w) s z l = k.lie b w s.1 z l
+    go b (inl v) s z l = h.are_parts b v s.1 z l
+    go b (inr w) s z l = k.are_parts b w s.1 z l
 
 -- Counts.
 
@@ -161,7 +161,7 @@ both t a b c d e k = (let x = count_both t a b in let y = count_both t c d in om
 pub keeps_alone : (P : List ℕ → Type 0) → CountedAlike P bytes_eq (λ v. v ∷ [])
 keeps_alone P = record { counted = λ v w p q e t. ap (λ x. count_by t (x ∷ [])) ((bytes_eq-Decides v w).0 e) }
 
-pub keeps_octets : {V : Type 0} (g : Grammar V) → IsCanonical g.same (g.spelled der) → CountedAlike (strict g).is_value (strict g).same (λ v. v.0 ∷ [])
+pub keeps_octets : {V : Type 0} (g : Grammar V) → IsCanonical g.same (g.spelled der) → CountedAlike (already_der g).is_value (already_der g).same (λ v. v.0 ∷ [])
 keeps_octets g h = record { counted = λ v w p q e z. ap (λ x. count_by z (x ∷ [])) ((bytes_eq-Decides v.0 w.0).0 (h.alike v.0 w.0 v.1 w.1 p.1 q.1 ∙ e)) }
 
 module _ {V X : Type 0} {P : V → Type 0} {s : V → V → Bool} {f : V → List X} (h : CountedAlike P s f) where

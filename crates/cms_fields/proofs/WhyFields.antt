@@ -3,10 +3,11 @@ use Rattle.std.proofs.Common.{inl, inr, ℕ, Bool, true, List}
 use Rattle.cms_tlv.specs.declared.fault.Reason.{Reason}
 use Rattle.cms_tlv.specs.declared.fault.Reason.TheVariants.{UnexpectedElement}
 use Rattle.cms_tlv.specs.declared.bound.Bound.{Bound}
+use Rattle.cms_tlv.specs.Headers.{IsConstructed}
 use Rattle.cms_tlv.specs.Reading.{Reader, may_be}
 use Rattle.cms_tlv.specs.RefusalReasons.{Explained, IsFree, either_says, says_inside, says_nothing, says_then}
-use Rattle.cms_tlv.proofs.Why.{wider, quiet, given_explained, opaque_explained, refuses_explained, bound_explained, made_explained, peeked_explained, branch_explained, fewer, close_explained, entered_explained, optional_explained, taking_explained}
-use Rattle.cms_fields.specs.Readers.{holding, then_of, optional_then_of, last_of, last_optional_of, constrained_of, unexpected_of, opaque_among_of, strict_of}
+use Rattle.cms_tlv.proofs.Why.{wider, quiet, given_explained, opaque_explained, bound_explained, made_explained, peeked_explained, branch_explained, fewer, close_explained, entered_explained, entered_refused, optional_explained, taking_explained}
+use Rattle.cms_fields.specs.Readers.{holding, then_of, optional_then_of, last_of, last_optional_of, constrained_of, unexpected_of, opaque_among_of, already_der_of}
 use Rattle.cms_fields.specs.Choices.{choice_of}
 use Rattle.cms_fields.specs.Selected.{selected_of}
 
@@ -24,9 +25,9 @@ or_right : {K L : Reason → List ℕ → Type 0} {A : Type 0} {n : ℕ} {bd : B
 or_right p = wider (λ r b. inr) p
 
 module _ {K : Reason → List ℕ → Type 0} where
-  pub holding_told : {A : Type 0} (id : ℕ) {g : Bound → Reader A} → Contents K g → Field (says_inside id K) (holding id g)
+  pub holding_told : {A : Type 0} (id : ℕ) → IsConstructed id → {g : Bound → Reader A} → Contents K g → Field (says_inside id K) (holding id g)
   unfolding holding
-  holding_told id k bd = entered_explained K id bd k
+  holding_told id constructed k bd = entered_explained K id constructed bd k
 
   pub last_told : {A : Type 0} {f : Bound → Reader A} → Field K f → Contents K (last_of f)
   unfolding last_of
@@ -40,16 +41,15 @@ module _ {K : Reason → List ℕ → Type 0} where
 
   pub unexpected_told : {A : Type 0} → Field K (unexpected_of {A = A})
   unfolding unexpected_of
-  unexpected_told bd = wider (λ r b x. absurd x.4)
-      (entered_explained says_nothing 0 bd (λ inner. fewer says_nothing (refuses_explained says_nothing UnexpectedElement (λ limit at. tt))))
+  unexpected_told bd = entered_refused K 0 bd UnexpectedElement (λ limit at. tt)
 
   pub opaque_among_told : (p : ℕ → Bool) → Field K (opaque_among_of p)
   unfolding opaque_among_of
   opaque_among_told p bd = peeked_explained K (λ x. branch_explained K (may_be p x) (opaque_explained K bd) (unexpected_told bd))
 
-  pub strict_told : {A : Type 0} {f : Bound → Reader A} → Field K f → Field K (strict_of f)
-  strict_told {f = f} h bd = (let k = h (record bd { strict = true }) in
-      taking_explained K (λ bd. f (record bd { strict = true })) bd (record { goes = k.goes; told = k.told }))
+  pub already_der_told : {A : Type 0} {f : Bound → Reader A} → Field K f → Field K (already_der_of f)
+  already_der_told {f = f} h bd = (let k = h (record bd { strict = true }) in
+      taking_explained K (λ bd. f (record bd { strict = true })) bd (record { goes = k.goes; cause = k.cause }))
 
   pub constrained_contents_told : {A : Type 0} (test : A → Bool) (reason : Reason) → IsFree reason → {f : Bound → Reader A} → Contents K f
       → Contents K (constrained_of test reason f)

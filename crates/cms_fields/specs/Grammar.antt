@@ -11,14 +11,14 @@ use Rattle.cms_tlv.specs.Opaque.{IsOpaque}
 use Rattle.cms_tlv.specs.Spelling.{Rules, der, Spelling, element, ◌⨟◌, optional, either}
 use Rattle.cms_tlv.specs.Spelling.{◌where_value◌, with_octets}
 use Rattle.cms_tlv.specs.Reading.{Reader, refuse, scalar_of, opaque_of}
-use Rattle.cms_tlv.specs.RefusalReasons.{Explained, either_says, says_inside, says_malformed}
-use Rattle.cms_tlv.specs.RefusalReasons.{says_nothing, says_then}
+use Rattle.cms_tlv.specs.RefusalReasons.{Explained, either_says, says_element, says_inside}
+use Rattle.cms_tlv.specs.RefusalReasons.{says_malformed, says_nothing, says_then}
 use Rattle.cms_tlv.specs.Law.{IsField, IsContents, Reads, ReadsTo}
 use Rattle.cms_fields.specs.Canonical.{IsByDer, IsDerFramed}
 use Rattle.cms_fields.specs.Choices.{choice_of, same_choice}
-use Rattle.cms_fields.specs.FirstOctets.{is_field_octet, is_primitive_octet, are_apart}
+use Rattle.cms_fields.specs.FirstOctets.{is_constructed_octet, is_primitive_octet, are_apart}
 use Rattle.cms_fields.specs.Readers.{Begins, holding, then_of, optional_then_of, last_of}
-use Rattle.cms_fields.specs.Readers.{last_optional_of, constrained_of, opaque_among_of, strict_of}
+use Rattle.cms_fields.specs.Readers.{last_optional_of, constrained_of, opaque_among_of, already_der_of}
 use Rattle.cms_fields.specs.Received.{as_received, IsOpaqueAmong}
 use Rattle.cms_fields.specs.Selected.{then_by_value, either_by, selected_of}
 
@@ -32,14 +32,11 @@ pub record Grammar (V : Type 0) : Type 1 where
   pub same : V → V → Bool
   --- `first`: the octets with which a spelling may begin
   pub first : ℕ → Bool
-  -- it is one element: each identifier octet may begin an element, and no part begins like a part
-  -- before it that may be absent
-  --- `is_field`: it is one element, and its parts are distinct
+  --- `is_field`: it is one element, with an identifier octet that an element may have, and its parts
+  ---   are distinct: none begins like a part before it that may be absent
   pub is_field : Bool
-  -- the same, if it is what lies between a header and its end
-  --- `is_contents`: it is contents, and its parts are distinct
+  --- `is_contents`: it is what lies between a header and its end, and its parts are distinct
   pub is_contents : Bool
-  -- how it is read: a field, or contents with their end
   --- `reader`: the pure reader of a field, or of contents with their end
   pub reader : Bound → Reader V
   -- the rules by which it is read if and only if it is spelled
@@ -82,9 +79,10 @@ pub record IsLawful {V : Type 0} (g : Grammar V) : Type 0 where
 
 -- Fields.
 
---- `piece R P same`: what `R` spells, which is only written, as part of a field [`Received`]
-abbrev pub piece : {V : Type 0} → (Rules → Spelling V) → (V → Type 0) → (V → V → Bool) → Grammar V
-piece R P s = record {
+--- `unread R P same`: what `R` spells, of a value with `P`; it has no reader of its own: what is made
+---   of it gives one [`Received`]
+abbrev pub unread : {V : Type 0} → (Rules → Spelling V) → (V → Type 0) → (V → V → Bool) → Grammar V
+unread R P s = record {
   spelled = R;
   is_value = P;
   same = s;
@@ -96,18 +94,19 @@ piece R P s = record {
   malformed = says_nothing;
 }
 
---- `received P`: octets with `P`, which are only written, as part of a field [`Received`]
-abbrev pub received : (List ℕ → Type 0) → Grammar (List ℕ)
-received P = piece (λ m. as_received P) P bytes_eq
+--- `octets_with P`: octets with `P`, which spell themselves; it has no reader of its own [`Received`]
+abbrev pub octets_with : (List ℕ → Type 0) → Grammar (List ℕ)
+octets_with P = unread (λ m. as_received P) P bytes_eq
 
---- `tagged id g`: an element with the identifier octet `id` that holds the contents `g` [`Tagged`]
+--- `tagged id g`: a constructed element with the identifier octet `id` that holds the contents `g`
+---   [`Tagged`]
 abbrev pub tagged : {V : Type 0} → ℕ → Grammar V → Grammar V
 tagged id g = record {
   spelled = λ m. element m id (g.spelled m);
   is_value = g.is_value;
   same = g.same;
   first = λ t. t == id;
-  is_field = is_field_octet id && g.is_contents;
+  is_field = is_constructed_octet id && g.is_contents;
   is_contents = false;
   reader = holding id g.reader;
   read_by = g.read_by;
@@ -116,7 +115,7 @@ tagged id g = record {
 
 --- `primitive id P test reason`: a primitive element with contents `P`, else `reason` [`Primitive`]
 abbrev pub primitive : ℕ → (List ℕ → Type 0) → (List ℕ → Bool) → Reason → Grammar (List ℕ)
-primitive id P test malformed = record (tagged id (received P)) {
+primitive id P test malformed = record (tagged id (octets_with P)) {
   is_field = is_primitive_octet id;
   reader = scalar_of id test malformed;
   read_by = λ m. true;
@@ -132,18 +131,18 @@ where_only g Q test reason = record g {
 }
 
 --- `constrained id P test reason Q also refusal`: `primitive`, and also with `Q`, as the test
----   `also` decides; else `refusal` [`Constrained`]
+---   `also` decides; contents with `P` and without `Q` are refused for `refusal` [`Constrained`]
 abbrev pub constrained : ℕ → (List ℕ → Type 0) → (List ℕ → Bool) → Reason → (List ℕ → Type 0)
     → (List ℕ → Bool) → Reason → Grammar (List ℕ)
 constrained id P test reason Q also refusal =
     record (where_only (primitive id P test reason) Q also refusal) {
       malformed = either_says (says_malformed id P reason)
-          (says_malformed id (λ c. P c × Q c) refusal);
+          (says_element id (λ c. P c × (Q c → ⊥)) refusal);
     }
 
 --- `opaque_element`: any opaque element [`Opaque`]
 abbrev pub opaque_element : Grammar (List ℕ)
-opaque_element = record (received IsOpaque) {
+opaque_element = record (octets_with IsOpaque) {
   is_field = true;
   reader = opaque_of;
   read_by = λ m. true;
@@ -151,23 +150,23 @@ opaque_element = record (received IsOpaque) {
 
 --- `opaque_among allowed`: one whose identifier octet is allowed [`OpaqueAmong`]
 abbrev pub opaque_among : (ℕ → Bool) → Grammar (List ℕ)
-opaque_among allowed = record (received (IsOpaqueAmong allowed)) {
+opaque_among allowed = record (octets_with (IsOpaqueAmong allowed)) {
   first = allowed;
   is_field = true;
   reader = opaque_among_of allowed;
   read_by = λ m. true;
 }
 
---- `strict g`: the field `g` in DER, whatever the rules are, and its octets [`AlreadyDer`]
-abbrev pub strict : {V : Type 0} → Grammar V → Grammar (List ℕ × V)
-strict g = record {
+--- `already_der g`: the field `g` in DER, whatever the rules are, and its octets [`AlreadyDer`]
+abbrev pub already_der : {V : Type 0} → Grammar V → Grammar (List ℕ × V)
+already_der g = record {
   spelled = λ m. with_octets (g.spelled der);
   is_value = λ v. (g.is_field ≡ true) × g.spelled der v.0 v.1;
   same = λ v w. g.same v.1 w.1;
   first = g.first;
   is_field = g.is_field;
   is_contents = false;
-  reader = strict_of g.reader;
+  reader = already_der_of g.reader;
   read_by = λ m. g.read_by der;
   malformed = g.malformed;
 }
@@ -220,7 +219,7 @@ optional_then g h = record {
   malformed = says_then g.malformed h.malformed;
 }
 
---- `last g`, `last_optional g`: the last field; the same, or nothing [`Last`, `Option`]
+--- `last g`: the field `g` as the last one of contents [`Last`]
 abbrev pub last : {V : Type 0} → Grammar V → Grammar V
 last g = record g {
   is_field = false;
@@ -228,7 +227,7 @@ last g = record g {
   reader = last_of g.reader;
 }
 
--- the last field, which may be absent
+--- `last_optional g`: the same, but `g` may be absent [`Option`]
 abbrev pub last_optional : {V : Type 0} → Grammar V → Grammar (Option V)
 last_optional g = record {
   spelled = λ m. optional (g.spelled m);

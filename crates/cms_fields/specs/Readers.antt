@@ -61,6 +61,6 @@ unexpected_of bd = enter_of 0 bd >>= λ inner. refuse UnexpectedElement
 unfoldable pub opaque_among_of : (ℕ → Bool) → Bound → Reader (List ℕ)
 opaque_among_of p bd = peek_of bd >>= λ o. if may_be p o then opaque_of bd else unexpected_of bd
 
---- `strict_of f`: that of `AlreadyDer`
-abbrev pub strict_of : {A : Type 0} → (Bound → Reader A) → Bound → Reader (List ℕ × A)
-strict_of f = taking (λ bd. f (record bd { strict = true }))
+--- `already_der_of f`: that of `AlreadyDer`
+abbrev pub already_der_of : {A : Type 0} → (Bound → Reader A) → Bound → Reader (List ℕ × A)
+already_der_of f = taking (λ bd. f (record bd { strict = true }))

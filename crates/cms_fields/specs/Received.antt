@@ -37,9 +37,9 @@ abbrev pub in_either : {V W X : Type 0} → (V → X) → (W → X) → V ⊎ W 
 in_either f g (inl v) = f v
 in_either f g (inr w) = g w
 
---- `LieIn R f`: each list that `f` gives of a value is part of what spells that value by `R`
-pub record LieIn {V : Type 0} (R : Spelling V) (f : V → List (List ℕ)) : Type 0 where
-  pub lie : (b : List ℕ) (v : V) → R b v → (z : List ℕ) → 0 < times z (f v) → IsPart z b
+--- `ArePartsOf R f`: each list that `f` gives of a value is part of what spells that value by `R`
+pub record ArePartsOf {V : Type 0} (R : Spelling V) (f : V → List (List ℕ)) : Type 0 where
+  pub are_parts : (b : List ℕ) (v : V) → R b v → (z : List ℕ) → 0 < times z (f v) → IsPart z b
 
 --- `CountedAlike P same f`: if two values with `P` are the same, then for each test, `f` gives
 ---   equally many items that pass it for both

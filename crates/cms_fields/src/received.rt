@@ -1,7 +1,7 @@
 //! Octets that are written as they were received.
 ghost use Rattle.std.specs.Prelude.{◌≡◌, ℕ, List};
 ghost use Rattle.cms_tlv.specs.Spans.{octets_in};
-ghost use Rattle.cms_fields.specs.Grammar.{received};
+ghost use Rattle.cms_fields.specs.Grammar.{octets_with};
 
 use crate::write::Write;
 use cms_tlv::Span;
@@ -36,7 +36,7 @@ impl<K: Kind> Received<K> {
 impl<K: Kind> Write for Received<K> {
     ghost Value = { List ℕ };
 
-    ghost grammar = { received K.is };
+    ghost grammar = { octets_with K.is };
 
     ghost value = { λ k x. octets_in k x.span.start x.span.end };
 

@@ -12,7 +12,7 @@ ghost use Rattle.cms_tlv.specs.State.{Answers, Progresses, FaultIsSticky};
 ghost use Rattle.cms_tlv.specs.Spans.{octets_in, LiesIn};
 ghost use Rattle.cms_tlv.specs.Refines.{Refines, seen};
 ghost use Rattle.cms_tlv.specs.Reading.{taking};
-ghost use Rattle.cms_fields.specs.Grammar.{strict};
+ghost use Rattle.cms_fields.specs.Grammar.{already_der};
 
 use crate::field::Field;
 use crate::write::Write;
@@ -32,7 +32,7 @@ pub struct AlreadyDer<T> {
 impl<T: Write> Write for AlreadyDer<T> {
     ghost Value = { List ℕ × T.Value };
 
-    ghost grammar = { strict T.grammar };
+    ghost grammar = { already_der T.grammar };
 
     ghost value = { λ k x. (octets_in k x.span.start x.span.end, T.value k x.field) };
 

@@ -1,6 +1,6 @@
 -- The countersignatures at the last depth, of which there are none.
 use Rattle.cms_tlv.specs.RefusalReasons.{Explained, says_nothing}
-use Rattle.cms_tlv.proofs.Why.{wider, refuses_explained, made_explained, peeked_explained, branch_explained, fewer, close_explained, entered_explained}
+use Rattle.cms_tlv.proofs.Why.{made_explained, peeked_explained, branch_explained, fewer, close_explained, entered_refused}
 use Rattle.std.proofs.Common.{◌≡◌, bytes_eq, inl, inr, ℕ, ◌+◌, Bool, true, false, cond, List, [], ◌∷◌, length, Option, None, refl, sym, ap, subst, ◌∙◌}
 use Rattle.std.specs.List.{AllZip}
 use Rattle.cms_tlv.specs.declared.fault.Reason.TheVariants.{Truncated, CountersignTooDeep}
@@ -120,5 +120,5 @@ pub none_told : (bd : Bound) → Explained says_nothing 0 bd (no_countersignatur
 unfolding no_countersignatures_of too_deep_of
 none_told bd =
     peeked_explained _ (λ o. branch_explained _ (may_be (λ t. true) o)
-    (fewer _ (wider (λ reason b x. x.4) (entered_explained says_nothing 0x30 bd (λ inner. refuses_explained _ CountersignTooDeep (λ limit at. tt)))))
+    (fewer _ (entered_refused _ 0x30 bd CountersignTooDeep (λ limit at. tt)))
     (made_explained _ (λ u. []) (close_explained _ bd)))

@@ -1,7 +1,8 @@
 -- The octets that a ContentInfo is refused for end in what is malformed.
-use Rattle.std.proofs.Common.{inl, inr, ℕ, zero, suc, List, ◌++◌, sym, subst}
+use Rattle.std.proofs.Common.{inl, inr, ℕ, zero, suc, List, ◌++◌, sym, subst, arith}
 use Rattle.cms_tlv.specs.declared.fault.Reason.{Reason}
 use Rattle.cms_tlv.specs.Headers.{IsHeader}
+use Rattle.cms_tlv.proofs.Paths.{header_path}
 use Rattle.cms_fields.specs.Grammar.{Grammar}
 use Rattle.cms_scalars.specs.Malformed.{IsMalformed}
 use Rattle.cms_scalars.proofs.MalformedLaws.{AreMalformed, later, inside, both, in_turn, nothing, integer, identifier, content_type, after}
@@ -47,9 +48,9 @@ signed_content = inside signed 0xa0
 
 -- the fields of a ContentInfo, after its header
 pub fields_in : (reason : Reason) (header b : List ℕ) → IsHeader 0x30 header → content_info_fields.malformed reason b → IsMalformed reason (header ++ b)
-fields_in reason header b h (inl (inl x)) = after reason header b (identifier.within reason b x)
+fields_in reason header b h (inl (inl x)) = after reason b (header_path h (omega arith)) (identifier.within reason b x)
 fields_in reason header b h (inl (inr x)) = content_type reason header b h x
-fields_in reason header b h (inr x) = after reason header b ((later signed_content).within reason b x)
+fields_in reason header b h (inr x) = after reason b (header_path h (omega arith)) ((later signed_content).within reason b x)
 
 pub content_info_ends : AreMalformed content_info.malformed
-content_info_ends = record { within = λ reason b x. subst (IsMalformed reason) (sym x.2) (fields_in reason x.0 x.1 x.3 x.4) }
+content_info_ends = record { within = λ reason b x. subst (IsMalformed reason) (sym x.2) (fields_in reason x.0 x.1 x.3 x.5) }

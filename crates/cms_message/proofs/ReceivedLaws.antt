@@ -12,7 +12,7 @@ use Rattle.cms_tlv.specs.Spelling.{Rules, der}
 use Rattle.cms_tlv.specs.Headers.{AreOctets}
 use Rattle.cms_tlv.specs.Opaque.{IsOpaque}
 use Rattle.cms_fields.specs.Grammar.{Grammar, last_optional, opaque_among, then_by}
-use Rattle.cms_fields.specs.Received.{IsOpaqueAmong, LieIn, CountedAlike}
+use Rattle.cms_fields.specs.Received.{IsOpaqueAmong, ArePartsOf, CountedAlike}
 use Rattle.cms_fields.proofs.ReceivedLaws.{singles, no_parts, received_parts, octets_parts, element_parts, optional_parts, where_parts, members_parts, then_parts, either_parts, followed_parts, selected_parts, each_part, maybe_part, count_both, keeps_alone, keeps_of, keeps_option, keeps_none, keeps_then, keeps_second, keeps_maybe, keeps_either}
 use Rattle.cms_scalars.specs.Grammar.{integer_type, object_identifier_type, octet_string_type}
 use Rattle.cms_setof.specs.Grammar.{set_of}
@@ -31,39 +31,39 @@ use Rattle.cms_message.specs.Received.{in_algorithm_identifier, in_sid, in_unsig
 
 -- Parts.
 
-algorithm_parts : (m : Rules) → LieIn (algorithm_identifier.spelled m) in_algorithm_identifier
+algorithm_parts : (m : Rules) → ArePartsOf (algorithm_identifier.spelled m) in_algorithm_identifier
 algorithm_parts m = element_parts (then_parts no_parts maybe_part) m 0x30
 
-issuer_parts : (m : Rules) → LieIn (issuer_and_serial_number.spelled m) (λ v. (v.0 ∷ []) ++ [])
+issuer_parts : (m : Rules) → ArePartsOf (issuer_and_serial_number.spelled m) (λ v. (v.0 ∷ []) ++ [])
 issuer_parts m = element_parts (then_parts received_parts no_parts) m 0x30
 
-sid_parts : (m : Rules) → LieIn (signer_identifier.spelled m) in_sid
+sid_parts : (m : Rules) → ArePartsOf (signer_identifier.spelled m) in_sid
 sid_parts m = either_parts (issuer_parts m) no_parts
 
-module _ {C : Type 0} (c : Grammar C) {f : C → List (List ℕ)} (m : Rules) (p : LieIn (c.spelled m) f) where
-  unsigned_parts : LieIn ((unsigned_attribute c).spelled m) (in_unsigned f)
+module _ {C : Type 0} (c : Grammar C) {f : C → List (List ℕ)} (m : Rules) (p : ArePartsOf (c.spelled m) f) where
+  unsigned_parts : ArePartsOf ((unsigned_attribute c).spelled m) (in_unsigned f)
   unsigned_parts =
       element_parts (followed_parts no_parts (λ t. selected_parts (is_countersignature t) (element_parts p m 0x31)
       (element_parts (each_part m) m 0x31))) m 0x30
 
-  signer_info_parts : LieIn ((signer_info c).spelled m) (in_signer_info f)
+  signer_info_parts : ArePartsOf ((signer_info c).spelled m) (in_signer_info f)
   signer_info_parts =
       element_parts (then_parts no_parts (then_parts (sid_parts m)
       (then_parts (algorithm_parts m) (then_parts (optional_parts (octets_parts _))
       (then_parts (algorithm_parts m) (then_parts no_parts (optional_parts
       (element_parts (where_parts (members_parts unsigned_parts m) (λ vs. vs ≢ [])) m 0xa1)))))))) m 0x30
 
-countersignatures_parts : (d : ℕ) (m : Rules) → LieIn ((countersignatures_within d).spelled m) (flat_map (in_signer_within d))
-countersignatures_parts zero m = members_parts {f = in_signer_within 0} (record { lie = λ b v s z h. absurd s }) m
+countersignatures_parts : (d : ℕ) (m : Rules) → ArePartsOf ((countersignatures_within d).spelled m) (flat_map (in_signer_within d))
+countersignatures_parts zero m = members_parts {f = in_signer_within 0} (record { are_parts = λ b v s z h. absurd s }) m
 countersignatures_parts (suc d) m = members_parts (signer_info_parts (countersignatures_within d) m (countersignatures_parts d m)) m
 
-signed_data_parts : (m : Rules) → LieIn (signed_data.spelled m) in_signed_data
+signed_data_parts : (m : Rules) → ArePartsOf (signed_data.spelled m) in_signed_data
 signed_data_parts m =
     element_parts (then_parts no_parts (then_parts (element_parts (members_parts (algorithm_parts m) m) m 0x31)
     (then_parts no_parts (then_parts (optional_parts (element_parts (each_part m) m 0xa0))
     (then_parts (optional_parts (element_parts (each_part m) m 0xa1)) (element_parts (countersignatures_parts 5 m) m 0x31)))))) m 0x30
 
-pub content_parts : (m : Rules) → LieIn (content_info.spelled m) in_content_info
+pub content_parts : (m : Rules) → ArePartsOf (content_info.spelled m) in_content_info
 content_parts m = element_parts (then_parts no_parts (element_parts (signed_data_parts m) m 0xa0)) m 0x30
 
 -- Counts.

@@ -1,6 +1,6 @@
 -- Attributes of a signer (RFC 5652, 5.3).
 use Rattle.std.specs.Prelude.{ℕ, List}
-use Rattle.cms_fields.specs.Grammar.{Grammar, tagged, opaque_element, strict, then_by, last}
+use Rattle.cms_fields.specs.Grammar.{Grammar, tagged, opaque_element, already_der, then_by, last}
 use Rattle.cms_setof.specs.Grammar.{set_of, some_of}
 use Rattle.cms_scalars.specs.Grammar.{object_identifier_type}
 
@@ -29,7 +29,7 @@ SignedAttributes = List ℕ × List Attribute
 -- SignedAttributes ::= SET SIZE (1..MAX) OF Attribute; signedAttrs is [0] IMPLICIT
 --- `signed_attributes`: A0 of attributes, at least one, always in DER [RFC 5652, 5.3]
 abbrev pub signed_attributes : Grammar SignedAttributes
-signed_attributes = strict (tagged 0xa0 (some_of attribute))
+signed_attributes = already_der (tagged 0xa0 (some_of attribute))
 
 -- UnsignedAttributes ::= SET SIZE (1..MAX) OF Attribute; unsignedAttrs is [1] IMPLICIT
 --- `unsigned_attributes g`: A1 of members that `g` describes, at least one [RFC 5652, 5.3]

@@ -6,7 +6,7 @@ ghost use Rattle.cms_tlv.specs.declared.bound.Bound.{Bound};
 ghost use Rattle.cms_tlv.specs.RefusalReasons.{Explained};
 ghost use Rattle.cms_tlv.specs.Law.{IsField, Reads, ReadsTo};
 ghost use Rattle.cms_fields.specs.Canonical.{IsByDer};
-ghost use Rattle.cms_fields.specs.Received.{LieIn, CountedAlike, times};
+ghost use Rattle.cms_fields.specs.Received.{ArePartsOf, CountedAlike, times};
 ghost use Rattle.cms_setof.specs.Same.{same_members};
 ghost use Rattle.cms_message.specs.Attributes.{SignedAttributes, attribute, signed_attributes};
 ghost use Rattle.cms_message.specs.Countersignatures.{is_countersignature, unsigned_attribute};
@@ -44,7 +44,7 @@ pub fn content_info_laws()
 /// the same: each of these lies in the one as often as in the other, their content is the same, and
 /// each signature and countersignature covers the same, whatever detached content is given.
 pub fn received_octets_are_kept()
-    ensures lie { (m : Rules) → LieIn (content_info.spelled m) in_content_info }
+    ensures are_parts { (m : Rules) → ArePartsOf (content_info.spelled m) in_content_info }
     ensures counted { CountedAlike content_info.is_value content_info.same in_content_info }
     ensures content { (v w : ContentInfo) → content_info.is_value v → content_info.is_value w
         → content_info.same v w ≡ true

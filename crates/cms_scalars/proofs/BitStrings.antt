@@ -56,7 +56,7 @@ spelled count octets o l h =
           sym (take-append-drop n (bits octets)) ∙ (ap (λ t. t ++ drop n (bits octets)) k.2
           ∙ append_assoc (without_trailing_zeros (take n (bits octets))) k.0 (drop n (bits octets)));
       no_trailing_zero = trimmed_ends (take n (bits octets));
-      behind = k.1;
+      may_follow = k.1;
     }
 
 tells : (c : List ℕ) → IsBitString c → IsNamedBits ber c (bits_of_contents c)
@@ -83,7 +83,7 @@ pub told : (c v : List ℕ) → IsNamedBits ber c v → IsBitString c × (bits_o
 told c v k =
     rw k.contents (
       ((omega (arith, k.most), k.are), some_octets k.count k.octets (omega (arith, k.most)) room),
-      shows k.count k.octets (omega (arith, k.most)) ∙ used (bits k.octets) v k.zeros k.unused k.count k.counted k.joined k.no_trailing_zero k.behind,
+      shows k.count k.octets (omega (arith, k.most)) ∙ used (bits k.octets) v k.zeros k.unused k.count k.counted k.joined k.no_trailing_zero k.may_follow,
     )
   where
     room : k.count ≤ length (bits k.octets)
@@ -110,7 +110,7 @@ to_minimal c v k =
       counted = k.counted;
       joined = k.joined;
       no_trailing_zero = k.no_trailing_zero;
-      behind = k.behind;
+      may_follow = k.may_follow;
     }
 
 from_minimal : (c v : List ℕ) → IsNamedBits minimal c v → IsNamedBits ber c v
@@ -126,7 +126,7 @@ from_minimal c v k =
       counted = k.counted;
       joined = k.joined;
       no_trailing_zero = k.no_trailing_zero;
-      behind = k.behind;
+      may_follow = k.may_follow;
     }
 
 pub named_bits_reads : (m : Rules) → m ≢ der → Reads m (named_bits m) named_bits_of
@@ -153,7 +153,7 @@ within c v k =
       counted = k.counted;
       joined = k.joined;
       no_trailing_zero = k.no_trailing_zero;
-      behind = no_zeros k.zeros k.behind.0;
+      may_follow = no_zeros k.zeros k.may_follow.0;
     }
 
 one_value : (m : Rules) (c v w : List ℕ) → IsNamedBits m c v → IsNamedBits m c w → v ≡ w
@@ -176,7 +176,7 @@ all_zeros (x ∷ xs) (y ∷ ys) a b e =
     cc
 
 der_bits : (c v : List ℕ) (k : IsNamedBits der c v) → bits k.octets ≡ v ++ k.unused
-der_bits c v k = k.joined ∙ ap (λ t. v ++ (t ++ k.unused)) k.behind.0
+der_bits c v k = k.joined ∙ ap (λ t. v ++ (t ++ k.unused)) k.may_follow.0
 
 one_spelling : (b c v : List ℕ) → IsNamedBits der b v → IsNamedBits der c v → b ≡ c
 one_spelling b c v p q =
@@ -191,7 +191,7 @@ one_spelling b c v p q =
     let h = p.most in
     let i = q.most in
     let e : p.count ≡ q.count = omega arith in
-    let u : p.unused ≡ q.unused = all_zeros p.unused q.unused p.behind.1 q.behind.1 (f ∙ e ∙ sym g) in
+    let u : p.unused ≡ q.unused = all_zeros p.unused q.unused p.may_follow.1 q.may_follow.1 (f ∙ e ∙ sym g) in
     let o : p.octets ≡ q.octets = bits_same p.octets q.octets p.are q.are (x ∙ ap (λ t. v ++ t) u ∙ sym y) in
     p.contents ∙ (rw (e, o) refl) ∙ sym q.contents
 
@@ -245,7 +245,7 @@ module _ (front : List ℕ) (last : ℕ) (o : AreOctets (front ++ last ∷ [])) 
     counted = length-replicate (trailing_zeros w8 last) 0;
     joined = bits_joined ∙ ap (λ t. t ++ replicate (trailing_zeros w8 last) 0) (sym value_is);
     no_trailing_zero = trimmed_ends (bits (front ++ last ∷ []));
-    behind = (refl, replicate_zeros (trailing_zeros w8 last));
+    may_follow = (refl, replicate_zeros (trailing_zeros w8 last));
   }
 
   pub width_is : length (without_trailing_zeros (bits (front ++ last ∷ []))) ≡ 8 * length front + (8 - trailing_zeros w8 last)
@@ -272,7 +272,7 @@ empty_spelled =
       counted = refl;
       joined = refl;
       no_trailing_zero = trimmed_ends [];
-      behind = (refl, tt);
+      may_follow = (refl, tt);
     }
 
 written : (c v : List ℕ) → IsNamedBits der c v → IsWritten (IsNamedBits der) bytes_eq v c

@@ -4,55 +4,57 @@ use Rattle.std.specs.Prelude.{false}
 use Rattle.cms_tlv.specs.declared.fault.Reason.{Reason}
 use Rattle.cms_tlv.specs.declared.fault.Reason.TheVariants.{IntegerMalformed, OidMalformed, BooleanMalformed, BitsMalformed, NotSignedData}
 use Rattle.cms_tlv.specs.Clauses.{Contains}
-use Rattle.cms_tlv.specs.Frames.{IsElement, of_length}
+use Rattle.cms_tlv.specs.Frames.{IsElement, of_length, IsPath, start}
+use Rattle.cms_tlv.proofs.Paths.{path_then, header_path}
 use Rattle.cms_tlv.specs.Headers.{IsIdentifier, low, high, IsHeader, IsLength}
-use Rattle.cms_tlv.specs.RefusalReasons.{either_says, says_inside, says_later, says_malformed, says_nothing, says_then}
+use Rattle.cms_tlv.specs.RefusalReasons.{either_says, says_element, says_inside, says_later, says_nothing, says_then}
 use Rattle.cms_scalars.specs.Scalars.{IsObjectIdentifier}
 use Rattle.cms_scalars.specs.ObjectIdentifiers.{id_signed_data}
 use Rattle.cms_scalars.specs.Grammar.{integer_type, object_identifier_type, boolean_type, named_bits_type}
 use Rattle.cms_scalars.specs.Malformed.{EndInElement, EndInContentType, IsMalformed}
-use Rattle.cms_scalars.proofs.ObjectIdentifiers.{object_identifier_known}
 
 pub record AreMalformed (K : Reason → List ℕ → Type 0) : Type 0 where
   pub within : (reason : Reason) (b : List ℕ) → K reason b → IsMalformed reason b
 
 -- after other octets
-ends_later : (x y : List ℕ) {id : ℕ} {P : List ℕ → Type 0} → EndInElement y id P → EndInElement (x ++ y) id P
-ends_later x y e = record {
+ends_later : {x : List ℕ} (y : List ℕ) {id : ℕ} {P : List ℕ → Type 0} → IsPath x → EndInElement y id P → EndInElement (x ++ y) id P
+ends_later {x = x} y p e = record {
   before = x ++ e.before;
   element = e.element;
   contents = e.contents;
   are = ap (λ z. x ++ z) e.are ∙ sym (append_assoc x e.before e.element);
+  is_path = path_then p e.is_path;
   is_element = e.is_element;
   says = e.says;
 }
 
-type_later : (x y : List ℕ) {P : List ℕ → Type 0} → EndInContentType y P → EndInContentType (x ++ y) P
-type_later x y e = record {
+type_later : {x : List ℕ} (y : List ℕ) {P : List ℕ → Type 0} → IsPath x → EndInContentType y P → EndInContentType (x ++ y) P
+type_later {x = x} y p e = record {
   before = x ++ e.before;
   header = e.header;
   element = e.element;
   contents = e.contents;
   are = ap (λ z. x ++ z) e.are ∙ sym (append_assoc x e.before (e.header ++ e.element));
+  is_path = path_then p e.is_path;
   is_header = e.is_header;
   is_element = e.is_element;
   says = e.says;
 }
 
-pub after : (reason : Reason) (x y : List ℕ) → IsMalformed reason y → IsMalformed reason (x ++ y)
-after IntegerMalformed x y e = ends_later x y e
-after OidMalformed x y e = ends_later x y e
-after BooleanMalformed x y e = ends_later x y e
-after BitsMalformed x y e = ends_later x y e
-after NotSignedData x y e = type_later x y e
-after reason x y e = absurd e
+pub after : (reason : Reason) {x : List ℕ} (y : List ℕ) → IsPath x → IsMalformed reason y → IsMalformed reason (x ++ y)
+after IntegerMalformed y p e = ends_later y p e
+after OidMalformed y p e = ends_later y p e
+after BooleanMalformed y p e = ends_later y p e
+after BitsMalformed y p e = ends_later y p e
+after NotSignedData y p e = type_later y p e
+after reason y p e = absurd e
 
 module _ {K : Reason → List ℕ → Type 0} (k : AreMalformed K) where
   pub later : AreMalformed (says_later K)
-  later = record { within = λ reason b x. subst (IsMalformed reason) (sym x.2) (after reason x.0 x.1 (k.within reason x.1 x.3)) }
+  later = record { within = λ reason b x. subst (IsMalformed reason) (sym x.2) (after reason x.1 x.3 (k.within reason x.1 x.4)) }
 
   pub inside : (id : ℕ) → AreMalformed (says_inside id K)
-  inside id = record { within = λ reason b x. subst (IsMalformed reason) (sym x.2) (after reason x.0 x.1 (k.within reason x.1 x.4)) }
+  inside id = record { within = λ reason b x. subst (IsMalformed reason) (sym x.2) (after reason x.1 (header_path x.3 x.4) (k.within reason x.1 x.5)) }
 
 pub both : {K L : Reason → List ℕ → Type 0} → AreMalformed K → AreMalformed L → AreMalformed (either_says K L)
 both {K = K} {L = L} k l = record { within = go }
@@ -77,7 +79,7 @@ pub element_in : {id : ℕ} {b c : List ℕ} → id % 32 ≢ 31 → Contains id 
 element_in {id = id} {c = c} n h = subst (λ x. IsElement x id c) (sym h.parts) (only_octet id h.identifier h.sizes c h.is_identifier n h.is_length)
 
 alone : {id : ℕ} {b c : List ℕ} {P : List ℕ → Type 0} → id % 32 ≢ 31 → Contains id false b c → P c → EndInElement b id P
-alone {b = b} {c = c} n h p = record { before = []; element = b; contents = c; are = refl; is_element = element_in n h; says = p }
+alone {b = b} {c = c} n h p = record { before = []; element = b; contents = c; are = refl; is_path = start; is_element = element_in n h; says = p }
 
 pub integer : AreMalformed integer_type.malformed
 integer = record { within = λ reason b x. subst (λ q. IsMalformed q b) (sym x.1) (alone (omega arith) x.2 x.3) }
@@ -91,26 +93,17 @@ boolean = record { within = λ reason b x. subst (λ q. IsMalformed q b) (sym x.
 pub named_bits : AreMalformed named_bits_type.malformed
 named_bits = record { within = λ reason b x. subst (λ q. IsMalformed q b) (sym x.1) (alone (omega arith) x.2 (λ v t. x.3 (v, t))) }
 
-signed_data_known : IsObjectIdentifier id_signed_data
-signed_data_known =
-    object_identifier_known id_signed_data (
-      omega arith,
-      (
-        omega arith,
-        (omega arith, (omega arith, (omega arith, (omega arith, (omega arith, (omega arith, (omega arith, tt))))))),
-      ),
-    ) refl
-
 -- a content type that is not id-signedData, after the header of a SEQUENCE
 pub content_type : (reason : Reason) (header b : List ℕ) → IsHeader 0x30 header
-    → says_malformed 0x06 (λ c. IsObjectIdentifier c × (c ≡ id_signed_data)) NotSignedData reason b → IsMalformed reason (header ++ b)
+    → says_element 0x06 (λ c. IsObjectIdentifier c × (c ≢ id_signed_data)) NotSignedData reason b → IsMalformed reason (header ++ b)
 content_type reason header b h x = subst (λ q. IsMalformed q (header ++ b)) (sym x.1) (record {
   before = [];
   header = header;
   element = b;
   contents = x.0;
   are = refl;
+  is_path = start;
   is_header = h;
   is_element = element_in (omega arith) x.2;
-  says = λ e. x.3 (subst IsObjectIdentifier (sym e) signed_data_known, e);
+  says = x.3;
 })

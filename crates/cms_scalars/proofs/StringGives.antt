@@ -151,7 +151,7 @@ of_added xs g = record { reaches = g.reaches; sound = g.sound; lasts = g.lasts }
 
 -- what was added after a look was added
 pub adds_behind : {old new : List Span} {a b c : State} → Succeeds a b → AddsSpans old new b c → AddsSpans old new a c
-adds_behind p q = record { behind = q.behind; moved = (let h = grows p in let k = q.moved in omega arith); clear = q.clear }
+adds_behind p q = record { added = q.added; moved = (let h = grows p in let k = q.moved in omega arith); clear = q.clear }
 
 -- a call that failed added nothing
 pub added_nothing : {V : Type 0} (P : Type 0) {r : Result V Fault} {e : Fault} → r ≡ Err e → OnOk r P
@@ -160,7 +160,7 @@ added_nothing P p = rw p tt
 -- at the end of the lists that were added
 pub adds_all : (old new : List Span) (a b c : State) (P : Type 0) (xs : List Span) (r : Result (Unit {0}) Fault) → new ≡ old ++ xs
     → length a.done < length b.done → P → OnOk r (Succeeds b c) → OnOk r (P → c.ahead ≡ None) → OnOk r (AddsSpans old new a c)
-adds_all old new a b c P xs (Ok u) e l p g k = record { behind = adds old new xs e; moved = (let h = grows g in omega arith); clear = k p }
+adds_all old new a b c P xs (Ok u) e l p g k = record { added = adds old new xs e; moved = (let h = grows g in omega arith); clear = k p }
 adds_all old new a b c P xs (Err e) q l p g k = tt
 
 -- one more list of them

@@ -20,6 +20,7 @@ use Rattle.cms_fields.specs.FirstOctets.{is_primitive_octet, are_apart}
 use Rattle.cms_fields.specs.Canonical.{IsByDer, IsDerFramed}
 use Rattle.cms_fields.specs.Writing.{HasLength, IsLengthOf, Writes}
 use Rattle.cms_fields.proofs.FirstOctetLaws.{is_primitive}
+use Rattle.cms_scalars.proofs.ConstructedOctets.{with_bit_6}
 use Rattle.cms_fields.proofs.ReaderLaws.{begins_as, tagged_field, tagged_reads}
 use Rattle.cms_fields.proofs.ChoiceLaws.{choice_field, choice_reads}
 use Rattle.cms_fields.proofs.CanonicalLaws.{element_canonical, element_framed, received_canonical}
@@ -69,7 +70,7 @@ module _ (id : ℕ) (s : is_primitive_octet id ≡ true) where
   })
 
   pub is_constructed : constructed id ≡ id + 0x20
-  is_constructed = (let a = constructed_octet.octet in omega arith)
+  is_constructed = (let f = (is_primitive id s).1 in omega (arith, with_bit_6 id, f))
 
   module _ (m : Rules) {S : Spelling (List (List ℕ))} (k : IsContents S) where
     apart : are_apart 0x100 (λ t. t == id) (λ t. t == id + 0x20) ≡ true

@@ -16,6 +16,7 @@ use Rattle.cms_scalars.specs.Readers.{constructed, part_of, parts_of, segments_o
 use Rattle.cms_tlv.specs.Spelling.{join}
 use Rattle.cms_scalars.specs.Grammar.{named_bits_type, boolean_type, default_false_then}
 use Rattle.cms_scalars.proofs.BitStrings as bits
+use Rattle.cms_scalars.proofs.ConstructedOctets.{has_bit_6}
 use Rattle.cms_scalars.proofs.Truth as truths
 
 pub bits_told : (bd : Bound) → Explained named_bits_type.malformed 1 bd (named_bits_of bd)
@@ -35,18 +36,18 @@ part_told id bd = made_explained _ one_part (primitive_explained _ id bd)
 -- of a primitive part, and of what is inside a constructed one, nothing is said
 nothing_said : (id : ℕ) (reason : Reason) (b : List ℕ) → either_says says_nothing (says_inside id says_nothing) reason b → says_nothing reason b
 nothing_said id reason b (inl x) = x
-nothing_said id reason b (inr x) = x.4
+nothing_said id reason b (inr x) = x.5
 
 parts_told : (id : ℕ) {g : Bound → Reader (List (List ℕ))} → ((bd : Bound) → Explained says_nothing 0 bd (g bd)) → (bd : Bound)
     → Explained says_nothing 1 bd (parts_of id g bd)
 unfolding parts_of
 parts_told id h bd = made_explained _ of_either
-    (wider (nothing_said (constructed id)) (choice_told _ (part_told id) (holding_told (constructed id) h) bd))
+    (wider (nothing_said (constructed id)) (choice_told _ (part_told id) (holding_told (constructed id) (has_bit_6 id) h) bd))
 
 segments_told : (n : ℕ) (bd : Bound) → Explained says_nothing 0 bd (segments_of n bd)
 unfolding segments_of
 segments_told zero bd = fewer _ (refuses_explained _ SegmentsTooDeep (λ limit at. tt))
-segments_told (suc n) bd = made_explained _ in_turn (wider (λ reason b x. x.3) (rows_explained _ (parts_told 0x04 (segments_told n)) bd))
+segments_told (suc n) bd = made_explained _ in_turn (wider (λ reason b x. x.4) (rows_explained _ (parts_told 0x04 (segments_told n)) bd))
 
 pub string_parts_told : (id : ℕ) (bd : Bound) → Explained says_nothing 1 bd (octet_string_parts_of id bd)
 unfolding octet_string_parts_of

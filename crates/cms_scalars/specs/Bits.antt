@@ -40,7 +40,7 @@ pub record IsNamedBits (m : Rules) (c v : List ℕ) : Type 0 where
   pub counted : length unused ≡ count
   pub joined : bits octets ≡ v ++ (zeros ++ unused)
   pub no_trailing_zero : HasNoTrailingZero v
-  pub behind : MayFollow m zeros unused
+  pub may_follow : MayFollow m zeros unused
 
 --- `named_bits m`: a primitive element 03 with such contents [X.690, 8.6.1; only primitive: ours]
 abbrev pub named_bits : Rules → Spelling (List ℕ)

@@ -23,7 +23,7 @@ added_spans old new = drop (length old) new
 
 -- spans were added after those that were there, octets were consumed, and none is kept ahead
 pub record AddsSpans (old new : List Span) (a b : State) : Type 0 where
-  pub behind : new ≡ old ++ added_spans old new
+  pub added : new ≡ old ++ added_spans old new
   pub moved : length a.done < length b.done
   pub clear : b.ahead ≡ None
 

@@ -8,7 +8,7 @@ use Rattle.cms_fields.specs.FirstOctets.{is_primitive_octet, are_apart}
 use Rattle.cms_tlv.specs.declared.fault.Reason.TheVariants.{IntegerMalformed, OidMalformed}
 use Rattle.cms_tlv.specs.declared.fault.Reason.TheVariants.{BooleanMalformed, BitsMalformed}
 use Rattle.cms_tlv.specs.declared.fault.Reason.TheVariants.{UnexpectedElement}
-use Rattle.cms_fields.specs.Grammar.{Grammar, piece, primitive, constrained}
+use Rattle.cms_fields.specs.Grammar.{Grammar, unread, primitive, constrained}
 use Rattle.cms_scalars.specs.Bits.{IsNamedBits, named_bits, named_bits_of}
 use Rattle.cms_scalars.specs.Booleans.{truth, boolean, boolean_of, default_false}
 use Rattle.cms_scalars.specs.Booleans.{default_false_then_of}
@@ -47,7 +47,7 @@ is_not_der der = false
 
 --- `named_bits_type`, `boolean_type`: what `named_bits` and `boolean` spell [X.690, 8.6, 8.2]
 abbrev pub named_bits_type : Grammar (List ℕ)
-named_bits_type = record (piece named_bits (λ v. Unit {0}) bytes_eq) {
+named_bits_type = record (unread named_bits (λ v. Unit {0}) bytes_eq) {
   first = λ t. t == 0x03;
   is_field = true;
   reader = named_bits_of;
@@ -57,7 +57,7 @@ named_bits_type = record (piece named_bits (λ v. Unit {0}) bytes_eq) {
 
 -- BOOLEAN
 abbrev pub boolean_type : Grammar Bool
-boolean_type = record (piece boolean (λ v. Unit {0}) beq) {
+boolean_type = record (unread boolean (λ v. Unit {0}) beq) {
   first = λ t. t == 0x01;
   is_field = true;
   reader = boolean_of;
@@ -67,7 +67,7 @@ boolean_type = record (piece boolean (λ v. Unit {0}) beq) {
 
 --- `octet_string_type id`: what `octet_string id` spells [X.690, 8.7]
 abbrev pub octet_string_type : ℕ → Grammar (List ℕ)
-octet_string_type id = record (piece (octet_string id) AreOctets bytes_eq) {
+octet_string_type id = record (unread (octet_string id) AreOctets bytes_eq) {
   first = is_string_octet id;
   is_field = is_primitive_octet id;
   reader = octet_string_of id;

@@ -13,7 +13,7 @@ use Rattle.cms_scalars.specs.declared.times.TimeFault.TheVariants.{OutOfMemory}
 abbrev pub IsDigit : ℕ → Type 0
 IsDigit x = (0x30 ≤ x) × (x ≤ 0x39)
 
---- `decimal_value ds`: the number that the digits `ds` stand for
+--- `decimal_value ds`: the number that the digits `ds` are in decimal
 abbrev pub decimal_value : List ℕ → ℕ
 decimal_value [] = 0
 decimal_value (d ∷ ds) = (d - 0x30) * 10 ^ length ds + decimal_value ds

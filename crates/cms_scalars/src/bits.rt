@@ -10,7 +10,7 @@ ghost use Rattle.cms_tlv.specs.Spans.{octets_in};
 ghost use Rattle.cms_tlv.specs.declared.tags.TheConstants.{BIT_STRING};
 ghost use Rattle.cms_scalars.specs.Scalars.{bits, bits_of};
 ghost use Rattle.cms_scalars.specs.Bits.{IsNamedBits, without_trailing_zeros, used_bits, bits_of_contents, bits_in, borrowed_bits, is_bit_string};
-ghost use Rattle.cms_fields.specs.Grammar.{piece};
+ghost use Rattle.cms_fields.specs.Grammar.{unread};
 ghost use Rattle.cms_scalars.specs.Grammar.{named_bits_type};
 
 use cms_fields::{Field, Tagged, Write};
@@ -64,7 +64,7 @@ struct BitContents(Span);
 impl Write for BitContents {
     ghost Value = { List ℕ };
 
-    ghost grammar = { piece IsNamedBits (λ v. Unit {0}) bytes_eq };
+    ghost grammar = { unread IsNamedBits (λ v. Unit {0}) bytes_eq };
 
     ghost value = { λ k x. bits_of_contents (octets_in k x.0.start x.0.end) };
 

@@ -2,7 +2,7 @@
 ghost use mathlib.Core.Bool.{beq};
 ghost use Rattle.std.specs.Prelude.{◌≡◌, Bool, false, option_map};
 ghost use Rattle.cms_scalars.specs.Booleans.{default_false, is_set};
-ghost use Rattle.cms_fields.specs.Grammar.{piece};
+ghost use Rattle.cms_fields.specs.Grammar.{unread};
 ghost use Rattle.cms_scalars.specs.Grammar.{default_false_then};
 
 use crate::booleans::{Boolean, is_true_in, put_true};
@@ -53,7 +53,7 @@ struct DefaultFalse(bool);
 impl Write for DefaultFalse {
     ghost Value = { Bool };
 
-    ghost grammar = { piece default_false (λ v. Unit {0}) beq };
+    ghost grammar = { unread default_false (λ v. Unit {0}) beq };
 
     ghost value = { λ k x. x.0 };
 

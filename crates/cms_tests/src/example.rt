@@ -3,7 +3,7 @@
 use crate::asserts::assert_same;
 use crate::samples::{SIGNED, message_of};
 use cms_check::{Job, Verdict, Verifier};
-use cms_example::{alike, both, breaks, content_info_in_der, written, written_or_refused};
+use cms_example::{are_one_message, both, breaks, content_info_in_der, written, written_or_refused};
 use cms_tlv::{Fault, Reason};
 use std::test::Fail;
 
@@ -14,8 +14,8 @@ const SMALLEST: &[u8] =
 fn the_smallest_message(rt: HostRuntime) -> Result<(), Fail> {
     let der = written(rt.alloc(), SMALLEST).ok_or("refused")?;
     assert_same(&rt, der.as_slice(), SMALLEST, "written");
-    let are_alike = alike(rt.alloc(), SMALLEST, &der);
-    assert_same(&rt, are_alike, Some(true), "alike");
+    let one = are_one_message(rt.alloc(), SMALLEST, &der);
+    assert_same(&rt, one, Some(true), "are_one_message");
     let (first, second) = both(rt.alloc(), SMALLEST, &der).ok_or("refused")?;
     assert_same(
         &rt,

@@ -46,7 +46,7 @@ mod CallClauses
 mod PrimitiveClauses
 pub mod Ties
 mod OpaqueGives
-mod Paths
+pub mod Paths
 mod OpaqueTies
 mod Within
 pub mod Why

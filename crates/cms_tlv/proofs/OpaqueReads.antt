@@ -11,7 +11,7 @@ use Rattle.cms_tlv.specs.declared.bound.Bound.{Bound}
 use Rattle.cms_tlv.specs.declared.bound.Header.{Header}
 use Rattle.cms_tlv.specs.Headers.{AreOctets, IsConstructed, IsIdentifier, IsLength, IsShortLength}
 use Rattle.cms_tlv.specs.Frames.{Frame, definite}
-use Rattle.cms_tlv.specs.Opaque.{IsPrimitiveNumber, HasItsForm, IsFramed, AreFramed, primitive, constructed, none, more, opaque}
+use Rattle.cms_tlv.specs.Opaque.{IsPrimitiveType, HasItsForm, IsFramed, AreFramed, primitive, constructed, none, more, opaque}
 use Rattle.cms_tlv.specs.State.{State}
 use Rattle.cms_tlv.specs.Spelling.{Rules}
 use Rattle.cms_tlv.specs.Refines.{Refines, seen}
@@ -34,10 +34,10 @@ use Rattle.cms_tlv.proofs.OctetsTaken.{taking_cut, taking_reads}
 use Rattle.cms_tlv.proofs.OpaqueGives.{framed_header, no_cut}
 
 -- Tests that tell.
-number_sound : (k : ℕ) → is_primitive_number k ≡ true → IsPrimitiveNumber k
+number_sound : (k : ℕ) → is_primitive_number k ≡ true → IsPrimitiveType k
 number_sound k e = grind (arith, nat_tests)
 
-number_complete : (k : ℕ) → IsPrimitiveNumber k → is_primitive_number k ≡ true
+number_complete : (k : ℕ) → IsPrimitiveType k → is_primitive_number k ≡ true
 number_complete k e = grind (arith, nat_tests)
 
 no_true : {b : Bool} → b ≡ true → not b ≡ true → ⊥

@@ -3,15 +3,17 @@ use Rattle.std.specs.Prelude.{◌≡◌, ◌≢◌, ℕ, suc, ◌%◌, ◌<◌, 
 use Rattle.cms_tlv.specs.Headers.{AreOctets, IsConstructed, IsIdentifier, IsShortLength}
 use Rattle.cms_tlv.specs.Spelling.{Spelling}
 
---- `IsPrimitiveNumber k`: the universal type `k` has to be primitive, as it is in DER
----   [ours; X.690, 8.2 to 8.8, 8.19, 8.23, 8.25, 10.2]
-abbrev pub IsPrimitiveNumber : ℕ → Type 0
-IsPrimitiveNumber k = ((1 ≤ k) × (k ≤ 6)) ⊎ (k ≡ 10) ⊎ (k ≡ 12) ⊎ ((18 ≤ k) × (k ≤ 28)) ⊎ (k ≡ 30)
+--- `IsPrimitiveType k`: an element of the universal type with the tag number `k` has to be primitive,
+---   as all elements of that type are in DER [X.690, 8.2 to 8.8, 8.19, 8.23, 8.25, 10.2]
+--- | this is not asked of the types 7, 9, 13 and 14 (ObjectDescriptor, REAL, RELATIVE-OID and TIME)
+---   [ours]
+abbrev pub IsPrimitiveType : ℕ → Type 0
+IsPrimitiveType k = ((1 ≤ k) × (k ≤ 6)) ⊎ (k ≡ 10) ⊎ (k ≡ 12) ⊎ ((18 ≤ k) × (k ≤ 28)) ⊎ (k ≡ 30)
 
---- `HasItsForm t`: if `t` is the identifier octet of such a type, it is primitive [X.690, 10.2]
---- | if it is that of SEQUENCE or SET, it is constructed [X.690, 8.9.1, 8.11.1]
+--- `HasItsForm t`: an identifier octet `t` of such a type is primitive [X.690, 10.2]
+--- | one of SEQUENCE or SET is constructed [X.690, 8.9.1, 8.11.1]
 pub record HasItsForm (t : ℕ) : Type 0 where
-  pub primitive : IsConstructed t → t < 64 → IsPrimitiveNumber (t % 32) → ⊥
+  pub primitive : IsConstructed t → t < 64 → IsPrimitiveType (t % 32) → ⊥
   pub constructed : (t ≡ 16) ⊎ (t ≡ 17) → ⊥
 
 mutual

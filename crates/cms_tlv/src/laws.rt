@@ -1,7 +1,7 @@
 //! Laws of the definitions, each the contract of a function that does nothing.
 ghost use Rattle.std.specs.Prelude.{◌≡◌, ◌==◌, ◌++◌, ◌<◌, ◌^◌, ℕ, Bool, List, Some, None, length, if◌then◌else◌};
-ghost use Rattle.cms_tlv.specs.Headers.{IsLength, IsShortLength};
-ghost use Rattle.cms_tlv.specs.Frames.{Frame, IsElement, IsDerElement};
+ghost use Rattle.cms_tlv.specs.Headers.{IsConstructed, IsIdentifier, IsLength, IsShortLength};
+ghost use Rattle.cms_tlv.specs.Frames.{Frame, IsElement, IsDerElement, IsPath};
 ghost use Rattle.cms_tlv.specs.FirstElement.{first_element};
 ghost use Rattle.cms_tlv.specs.Opaque.{IsFramed};
 ghost use Rattle.cms_tlv.specs.State.{State};
@@ -27,7 +27,14 @@ pub fn first_elements_are_elements()
         → first_element t (e ++ r) ≡ (if i == t then Some (c, r) else None) }
 {}
 
-/// Length octets stand for one length, no length octets are a proper prefix of others, a length has one
+/// The header of a primitive element that has contents is no path (X.690, 8.1): octets after it are the
+/// contents of that element, and no element of their own.
+pub fn no_path_enters_a_primitive_element()
+    ensures { (id n : ℕ) (i l : List ℕ) → IsIdentifier id i → (IsConstructed id → ⊥) → IsLength l n
+        → 0 < n → IsPath (i ++ l) → ⊥ }
+{}
+
+/// Length octets encode one length, no length octets are a proper prefix of others, a length has one
 /// shortest spelling, and each number below 2^64 has such a spelling (X.690, 8.1.3 and 10.1).
 pub fn lengths_are_one()
     ensures one { (l m x y : List ℕ) (n k : ℕ) → IsLength l n → IsLength m k → l ++ x ≡ m ++ y

@@ -51,6 +51,7 @@ pub use input::{Input, Slice};
 pub use laws::{
     elements_have_one_contents, first_elements_are_elements, framed_values_are_frames,
     frames_end_themselves, hopeless_octets_begin_no_frame, lengths_are_one,
+    no_path_enters_a_primitive_element,
 };
 pub use output::{Output, pour};
 pub use scanner::Scanner;

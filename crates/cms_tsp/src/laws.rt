@@ -6,7 +6,7 @@ ghost use Rattle.cms_tlv.specs.declared.bound.Bound.{Bound};
 ghost use Rattle.cms_tlv.specs.RefusalReasons.{Explained};
 ghost use Rattle.cms_tlv.specs.Law.{IsField, Reads, ReadsTo};
 ghost use Rattle.cms_fields.specs.Canonical.{IsByDer};
-ghost use Rattle.cms_fields.specs.Received.{LieIn, CountedAlike};
+ghost use Rattle.cms_fields.specs.Received.{ArePartsOf, CountedAlike};
 ghost use Rattle.cms_tsp.specs.Requests.{TimeStampReq, imprint, time_stamp_req, time_stamp_req_fields};
 ghost use Rattle.cms_tsp.specs.Responses.{time_stamp_resp, time_stamp_resp_fields};
 ghost use Rattle.cms_tsp.specs.TstInfo.{TstInfo, tst_info};
@@ -56,7 +56,7 @@ pub fn response_laws()
 /// hashAlgorithm and its extensions, lies in what spells it, octet for octet. It says of two that are
 /// the same: each of these lies in the one as often as in the other, and they ask for the same imprint.
 pub fn request_octets_are_kept()
-    ensures lie { (m : Rules) → LieIn (time_stamp_req.spelled m) in_time_stamp_req }
+    ensures are_parts { (m : Rules) → ArePartsOf (time_stamp_req.spelled m) in_time_stamp_req }
     ensures counted { CountedAlike time_stamp_req.is_value time_stamp_req.same in_time_stamp_req }
     ensures imprint { (v w : TimeStampReq) → time_stamp_req.same v w ≡ true
         → imprint v ≡ imprint w }
@@ -66,7 +66,7 @@ pub fn request_octets_are_kept()
 /// `received_octets_are_kept` names in its token, lies in what spells it, octet for octet. It says of
 /// two that are the same: each of these lies in the one as often as in the other.
 pub fn response_octets_are_kept()
-    ensures lie { (m : Rules) → LieIn (time_stamp_resp.spelled m) in_time_stamp_resp }
+    ensures are_parts { (m : Rules) → ArePartsOf (time_stamp_resp.spelled m) in_time_stamp_resp }
     ensures counted { CountedAlike time_stamp_resp.is_value time_stamp_resp.same
         in_time_stamp_resp }
 {

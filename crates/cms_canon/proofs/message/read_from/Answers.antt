@@ -15,9 +15,9 @@ returns-clause-found g c left failures begun = elim c.match-read.branch [
       c.requires.sound c.finish-reader.ensures.failures (w.in-Ok.ensures.refines c.requires.sound).reaches.took
       (w.in-Ok.ensures.refines c.requires.sound).sound in
       rw (w.message-is, w.reader-is) (message_read left (g.R.Input.left c.finish-reader.result.0)
-      (g.R.Input.left w.judged-message.new.reader) failures (g.R.Input.failures c.finish-reader.result.0)
-      (g.R.Input.failures w.judged-message.new.reader) c.args.limit c.args.tail _ same k.0 k.1 w.judged-message.result
-      w.judged-message.ensures.found w.judged-message.ensures.writable)
+      (g.R.Input.left w.if_writable-message.new.reader) failures (g.R.Input.failures c.finish-reader.result.0)
+      (g.R.Input.failures w.if_writable-message.new.reader) c.args.limit c.args.tail _ same k.0 k.1 w.if_writable-message.result
+      w.if_writable-message.ensures.found w.if_writable-message.ensures.writable)
   | in-Err w ↦ rw w.message-is tt
 ]
 
@@ -32,9 +32,9 @@ returns-clause-faults g c left failures begun = elim c.match-read.branch [
       c.requires.sound c.finish-reader.ensures.failures (w.in-Ok.ensures.refines c.requires.sound).reaches.took
       (w.in-Ok.ensures.refines c.requires.sound).sound in
       rw (w.message-is, w.reader-is) (past_clause left (g.R.Input.left c.finish-reader.result.0)
-      (g.R.Input.left w.judged-message.new.reader) failures (g.R.Input.failures c.finish-reader.result.0)
-      (g.R.Input.failures w.judged-message.new.reader) c.args.limit c.args.tail _ k.0 k.1 same w.judged-message.result
-      w.judged-message.ensures.faults)
+      (g.R.Input.left w.if_writable-message.new.reader) failures (g.R.Input.failures c.finish-reader.result.0)
+      (g.R.Input.failures w.if_writable-message.new.reader) c.args.limit c.args.tail _ k.0 k.1 same w.if_writable-message.result
+      w.if_writable-message.ensures.faults)
   | in-Err w ↦
       let s = c.read_spans-read.new.source in
       let failed = was_refused left failures c.args.limit _ s w.in-Err.fault begun (w.in-Err.ensures.refines c.requires.sound) in
@@ -51,9 +51,9 @@ returns-clause-refines g c left failures begun = elim c.match-read.branch [
       kept_whole left (g.R.Input.left c.finish-reader.result.0) failures c.args.limit c.finish-reader.result.1.items begun
       w.in-Ok.ensures.found w.in-Ok.ensures.clear c.finish-reader.ensures.kept c.finish-reader.ensures.left c.finish-reader.ensures.limit in
       rw (w.message-is, w.reader-is) (past_first_clause left (g.R.Input.left c.finish-reader.result.0)
-      (g.R.Input.left w.judged-message.new.reader) failures (g.R.Input.failures c.finish-reader.result.0)
-      (g.R.Input.failures w.judged-message.new.reader) c.args.limit c.args.tail _ k.0 k.1 w.judged-message.result
-      w.judged-message.ensures.faults)
+      (g.R.Input.left w.if_writable-message.new.reader) failures (g.R.Input.failures c.finish-reader.result.0)
+      (g.R.Input.failures w.if_writable-message.new.reader) c.args.limit c.args.tail _ k.0 k.1 w.if_writable-message.result
+      w.if_writable-message.ensures.faults)
   | in-Err w ↦
       let s = c.read_spans-read.new.source in
       let failed = was_refused left failures c.args.limit _ s w.in-Err.fault begun (w.in-Err.ensures.refines c.requires.sound) in
@@ -63,7 +63,7 @@ returns-clause-refines g c left failures begun = elim c.match-read.branch [
 
 pub returns-clause-begins : goal.returns-clause-begins
 returns-clause-begins g c n = elim c.match-read.branch [
-  | in-Ok w ↦ rw w.message-is (rejected_begun_clause _ _ _ _ w.judged-message.result w.judged-message.ensures.faults)
+  | in-Ok w ↦ rw w.message-is (rejected_begun_clause _ _ _ _ w.if_writable-message.result w.if_writable-message.ensures.faults)
   | in-Err w ↦ rw w.message-is (refused_begun _ _ _ w.in-Err.fault n (w.in-Err.ensures.refines c.requires.sound))
 ]
 

@@ -100,7 +100,7 @@ loop-source-preserved g t c =
         pieces ++ more ∷ [],
         more_added c.args.spans.now c.has_more_segments.new.spans _ more pieces
             (adds_alone c.args.spans.now c.loop-source.spans c.has_more_segments.new.spans _ c.loop-source.invariant.2.0
-            c.loop-source.invariant.2.1 sees.takes.passes.spans) c.in_ok-read_parts.ensures.ok.behind,
+            c.loop-source.invariant.2.1 sees.takes.passes.spans) c.in_ok-read_parts.ensures.ok.added,
         more_moved view _ _ _ _ _ _ _ _ _ _ _ more c.in_ok-read_parts.ensures.ok.moved has peek.1
             (row_gave view _ _ (of_added more c.in_ok-read_parts.ensures.refines)),
       ),

@@ -13,7 +13,7 @@ returns-in_err-part-clause-refines g c =
 
 pub returns-in-Ok-clause-ok : goal.returns-in-Ok-clause-ok
 returns-in-Ok-clause-ok g c = record {
-  behind = adds _ _ (c.in_ok-part.part ∷ []) c.in-Ok.ensures.ok;
+  added = adds _ _ (c.in_ok-part.part ∷ []) c.in-Ok.ensures.ok;
   moved = c.in_ok-part.ensures.ok.some;
   clear = c.in_ok-part.ensures.clear;
 }

@@ -55,7 +55,7 @@ unfolding octet_string_parts_of
 returns-clause-refines g c sound =
     let next = c.in_ok-peek.ensures.refines sound in
     let new = added_spans c.new-spans.result c.read_parts.new.spans in
-    let items : c.read_parts.new.spans ≡ new = c.in_ok-read_parts.ensures.ok.behind ∙ ap (λ z. z ++ new) c.new-spans.ensures in
+    let items : c.read_parts.new.spans ≡ new = c.in_ok-read_parts.ensures.ok.added ∙ ap (λ z. z ++ new) c.new-spans.ensures in
     let parts = of_added new c.in_ok-read_parts.ensures.refines in
     let shown = λ (k : List ℕ). ap (λ z. spanned_in k z) items in
     let done = c.read_parts.new.source.done in

@@ -5,7 +5,7 @@ use Rattle.std.proofs.lemmas.Slice.Eq.{bytes_eq-Decides}
 use Rattle.cms_tlv.specs.Spelling.{Rules}
 use Rattle.cms_tlv.specs.Opaque.{IsOpaque}
 use Rattle.cms_fields.specs.Grammar.{last_optional}
-use Rattle.cms_fields.specs.Received.{IsOpaqueAmong, LieIn, CountedAlike}
+use Rattle.cms_fields.specs.Received.{IsOpaqueAmong, ArePartsOf, CountedAlike}
 use Rattle.cms_fields.proofs.ReaderLaws.{pairs}
 use Rattle.cms_fields.proofs.ReceivedLaws.{no_parts, element_parts, then_parts, first_parts, maybe_part, keeps_none, keeps_of, keeps_then, keeps_first, keeps_maybe}
 use Rattle.cms_scalars.specs.Grammar.{boolean_type, integer_type, object_identifier_type, octet_string_type}
@@ -15,7 +15,7 @@ use Rattle.cms_scalars.specs.Octets.{octet_string}
 use Rattle.cms_tsp.specs.Requests.{MessageImprint, message_imprint, hash_algorithm, is_extensions}
 use Rattle.cms_tsp.proofs.laws.request_octets_are_kept.Goals as goal
 
-imprint_parts : (m : Rules) → LieIn (message_imprint.spelled m) (λ v. in_algorithm_identifier (hash_algorithm v))
+imprint_parts : (m : Rules) → ArePartsOf (message_imprint.spelled m) (λ v. in_algorithm_identifier (hash_algorithm v))
 imprint_parts m = element_parts (first_parts (octet_string 0x04 m) (element_parts (then_parts no_parts maybe_part) m 0x30)) m 0x30
 
 keeps_imprint : CountedAlike message_imprint.is_value message_imprint.same (λ v. in_algorithm_identifier (hash_algorithm v))
@@ -37,8 +37,8 @@ equal_imprints v w e =
     pairs (equal_algorithms v.0 w.0 (first_so (algorithm_identifier.same v.0 w.0) (bytes_eq v.1 w.1) e))
     ((bytes_eq-Decides v.1 w.1).0 (second_so (algorithm_identifier.same v.0 w.0) (bytes_eq v.1 w.1) e))
 
-pub returns-clause-lie : goal.returns-clause-lie
-returns-clause-lie c m =
+pub returns-clause-are_parts : goal.returns-clause-are_parts
+returns-clause-are_parts c m =
     element_parts (then_parts no_parts (then_parts (imprint_parts m)
     (then_parts no_parts (then_parts no_parts (then_parts no_parts maybe_part))))) m 0x30
 

@@ -1,6 +1,6 @@
 use Rattle.std.proofs.lemmas.Result.{IfOk-weaker}
 use Rattle.cms_canon.proofs.FoundLaws.{signed_found, response_found}
-use Rattle.cms_canon.proofs.check.check_message_digests.Goals as goal
+use Rattle.cms_canon.proofs.check.report_or_lack.Goals as goal
 
 pub returns-in-Signed : goal.returns-in-Signed
 returns-in-Signed c =
