@@ -38,22 +38,22 @@ asked_of_data (inl v) read = digest_asked_by read
 asked_of_data (inr (inl v)) read = imprint_algorithm (imprint v)
 asked_of_data (inr (inr v)) read = digest_asked_by read
 
---- `Lacks asked given`: digests are given, and none by an algorithm that is asked for
-abbrev pub Lacks : List HashAlg → Option (List (HashAlg × Hashed)) → Type 0
-Lacks asked None = ⊥
-Lacks asked (Some digests) =
+--- `LacksOneOf asked given`: digests are given, and none by an algorithm that is asked for
+abbrev pub LacksOneOf : List HashAlg → Option (List (HashAlg × Hashed)) → Type 0
+LacksOneOf asked None = ⊥
+LacksOneOf asked (Some digests) =
     (h : HashAlg) × Contains asked h × ((d : Hashed) → Contains digests (h, d) → ⊥)
 
---- `LacksDigest v detached stamped`: the digests given of the content, or of the data that were
----   time-stamped, are without one that the message asks for
-abbrev pub LacksDigest : MessageValue → Option (List (HashAlg × Hashed))
+--- `LacksAskedDigest v detached stamped`: the digests given of the content, or of the data that
+---   were time-stamped, are without one that the message asks for
+abbrev pub LacksAskedDigest : MessageValue → Option (List (HashAlg × Hashed))
     → Option (List (HashAlg × Hashed)) → Type 0
-LacksDigest v detached stamped =
-    Lacks (asked_of_content v) detached
+LacksAskedDigest v detached stamped =
+    LacksOneOf (asked_of_content v) detached
     ⊎ ((read : Option TstInfo) × IsTstInfoOf (tst_content_attached v) read
-    × Lacks (option_to_list (asked_of_data v read)) stamped)
+    × LacksOneOf (option_to_list (asked_of_data v read)) stamped)
 
---- `LacksOctets v detached`: digests of the content are given, and it is needed as octets
-abbrev pub LacksOctets : MessageValue → Option (List (HashAlg × Hashed)) → Type 0
-LacksOctets v None = ⊥
-LacksOctets v (Some digests) = needs_content v ≡ true
+--- `LacksNeededOctets v detached`: digests of the content are given, and it is needed as octets
+abbrev pub LacksNeededOctets : MessageValue → Option (List (HashAlg × Hashed)) → Type 0
+LacksNeededOctets v None = ⊥
+LacksNeededOctets v (Some digests) = needs_content v ≡ true

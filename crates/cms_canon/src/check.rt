@@ -8,7 +8,7 @@ ghost use Rattle.cms_check.specs.declared.verifier.Verdict.TheVariants.{Unknown}
 ghost use Rattle.cms_check.specs.Digests.{AreDigestsOf};
 ghost use Rattle.cms_check.specs.Known.{Correspond};
 ghost use Rattle.cms_check.specs.declared.known.NoReport.TheVariants.{NoDigest, NoOctets};
-ghost use Rattle.cms_canon.specs.Asked.{Lacks, LacksDigest, LacksOctets};
+ghost use Rattle.cms_canon.specs.Asked.{LacksOneOf, LacksAskedDigest, LacksNeededOctets};
 ghost use Rattle.cms_canon.specs.Answers.{AfterFaults, AreFoundAfter, IsChecked, reads_rest, tail_before};
 ghost use Rattle.cms_canon.specs.Checking.{AreFindings, has_fault};
 ghost use Rattle.cms_canon.specs.Given.{GivenFaults};
@@ -172,8 +172,8 @@ pub fn check_message_digests(
         → Correspond AreDigestsOf (option_copied stamped.entry) octets
         → AreFindings (λ job. Unknown) message.now.value content octets r) }
     ensures no_octets { (result ≡ Err NoOctets)
-        ↔ LacksOctets message.now.value (option_copied detached.entry) }
-    ensures no_digest { result ≡ Err NoDigest → LacksDigest message.now.value
+        ↔ LacksNeededOctets message.now.value (option_copied detached.entry) }
+    ensures no_digest { result ≡ Err NoDigest → LacksAskedDigest message.now.value
         (option_copied detached.entry) (option_copied stamped.entry) }
 {
     if detached.is_some() && needs_content(message) {
@@ -192,7 +192,7 @@ fn lacks_digest(
     detached: Option<&Digests>,
     stamped: Option<&Digests>,
 ) -> Result<bool, AllocError>
-    ensures { IfOk result (λ lacks. lacks ≡ true → LacksDigest message.now.value
+    ensures { IfOk result (λ lacks. lacks ≡ true → LacksAskedDigest message.now.value
         (option_copied detached.entry) (option_copied stamped.entry)) }
 {
     Ok(lacks(detached, &asked_of_content(alloc, message)?)
@@ -201,7 +201,7 @@ fn lacks_digest(
 
 /// Whether digests are given, and none by one of these algorithms.
 fn lacks(given: Option<&Digests>, asked: &[HashAlg]) -> bool
-    ensures { result ≡ true → Lacks asked.now (option_copied given.entry) }
+    ensures { result ≡ true → LacksOneOf asked.now (option_copied given.entry) }
 {
     let Some(digests) = given else {
         return false;

@@ -5,11 +5,11 @@ use Rattle.std.specs.Prelude.{ℕ, zero, suc, ◌/◌, ◌%◌, Bool, true, not,
 abbrev pub is_field_octet : ℕ → Bool
 is_field_octet id = nat_lt id 0x100 && (not (id % 32 == 31) && not (id == 0))
 
---- `is_constructed_octet id`, `is_primitive_octet id`: the same, and it is constructed or primitive
----   [X.690, 8.1.2.5]
+--- `is_constructed_octet id`: the same, and it is constructed [X.690, 8.1.2.5]
 abbrev pub is_constructed_octet : ℕ → Bool
 is_constructed_octet id = is_field_octet id && (id / 32) % 2 == 1
 
+--- `is_primitive_octet id`: the same as `is_field_octet id`, and it is primitive [X.690, 8.1.2.5]
 abbrev pub is_primitive_octet : ℕ → Bool
 is_primitive_octet id = is_field_octet id && not ((id / 32) % 2 == 1)
 

@@ -18,7 +18,8 @@ use Rattle.cms_fields.specs.Canonical.{IsByDer, IsDerFramed}
 use Rattle.cms_fields.specs.Choices.{choice_of, same_choice}
 use Rattle.cms_fields.specs.FirstOctets.{is_constructed_octet, is_primitive_octet, are_apart}
 use Rattle.cms_fields.specs.Readers.{Begins, holding, then_of, optional_then_of, last_of}
-use Rattle.cms_fields.specs.Readers.{last_optional_of, constrained_of, opaque_among_of, already_der_of}
+use Rattle.cms_fields.specs.Readers.{last_optional_of, constrained_of, opaque_among_of}
+use Rattle.cms_fields.specs.Readers.{already_der_of}
 use Rattle.cms_fields.specs.Received.{as_received, IsOpaqueAmong}
 use Rattle.cms_fields.specs.Selected.{then_by_value, either_by, selected_of}
 
@@ -32,8 +33,8 @@ pub record Grammar (V : Type 0) : Type 1 where
   pub same : V → V → Bool
   --- `first`: the octets with which a spelling may begin
   pub first : ℕ → Bool
-  --- `is_field`: it is one element, with an identifier octet that an element may have, and its parts
-  ---   are distinct: none begins like a part before it that may be absent
+  --- `is_field`: it is one element, with an identifier octet that it may have, and its parts are
+  ---   distinct: none begins like a part before it that may be absent
   pub is_field : Bool
   --- `is_contents`: it is what lies between a header and its end, and its parts are distinct
   pub is_contents : Bool
@@ -79,8 +80,8 @@ pub record IsLawful {V : Type 0} (g : Grammar V) : Type 0 where
 
 -- Fields.
 
---- `unread R P same`: what `R` spells, of a value with `P`; it has no reader of its own: what is made
----   of it gives one [`Received`]
+--- `unread R P same`: what `R` spells, of a value with `P`; it has no reader of its own, and what
+---   is made of it gives one [`Received`]
 abbrev pub unread : {V : Type 0} → (Rules → Spelling V) → (V → Type 0) → (V → V → Bool) → Grammar V
 unread R P s = record {
   spelled = R;
@@ -94,7 +95,7 @@ unread R P s = record {
   malformed = says_nothing;
 }
 
---- `octets_with P`: octets with `P`, which spell themselves; it has no reader of its own [`Received`]
+--- `octets_with P`: octets with `P`, which spell themselves; likewise without a reader [`Received`]
 abbrev pub octets_with : (List ℕ → Type 0) → Grammar (List ℕ)
 octets_with P = unread (λ m. as_received P) P bytes_eq
 

@@ -45,7 +45,7 @@ is_not_der ber = true
 is_not_der minimal = true
 is_not_der der = false
 
---- `named_bits_type`, `boolean_type`: what `named_bits` and `boolean` spell [X.690, 8.6, 8.2]
+--- `named_bits_type`: what `named_bits` spells [X.690, 8.6]
 abbrev pub named_bits_type : Grammar (List ℕ)
 named_bits_type = record (unread named_bits (λ v. Unit {0}) bytes_eq) {
   first = λ t. t == 0x03;
@@ -55,7 +55,7 @@ named_bits_type = record (unread named_bits (λ v. Unit {0}) bytes_eq) {
   malformed = says_malformed 0x03 (λ c. (v : List ℕ) × IsNamedBits ber c v) BitsMalformed;
 }
 
--- BOOLEAN
+--- `boolean_type`: what `boolean` spells [X.690, 8.2]
 abbrev pub boolean_type : Grammar Bool
 boolean_type = record (unread boolean (λ v. Unit {0}) beq) {
   first = λ t. t == 0x01;

@@ -44,5 +44,6 @@ IsMalformed OidMalformed octets = EndInElement octets 0x06 (λ c. IsObjectIdenti
 IsMalformed BooleanMalformed octets = EndInElement octets 0x01 (λ c. (v : Bool) → truth ber c v → ⊥)
 IsMalformed BitsMalformed octets =
     EndInElement octets 0x03 (λ c. (v : List ℕ) → IsNamedBits ber c v → ⊥)
-IsMalformed NotSignedData octets = EndInContentType octets (λ c. IsObjectIdentifier c × (c ≢ id_signed_data))
+IsMalformed NotSignedData octets =
+    EndInContentType octets (λ c. IsObjectIdentifier c × (c ≢ id_signed_data))
 IsMalformed reason octets = ⊥

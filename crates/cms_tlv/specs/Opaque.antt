@@ -3,10 +3,9 @@ use Rattle.std.specs.Prelude.{◌≡◌, ◌≢◌, ℕ, suc, ◌%◌, ◌<◌, 
 use Rattle.cms_tlv.specs.Headers.{AreOctets, IsConstructed, IsIdentifier, IsShortLength}
 use Rattle.cms_tlv.specs.Spelling.{Spelling}
 
---- `IsPrimitiveType k`: an element of the universal type with the tag number `k` has to be primitive,
----   as all elements of that type are in DER [X.690, 8.2 to 8.8, 8.19, 8.23, 8.25, 10.2]
---- | this is not asked of the types 7, 9, 13 and 14 (ObjectDescriptor, REAL, RELATIVE-OID and TIME)
----   [ours]
+--- `IsPrimitiveType k`: an element of the universal type with the tag number `k` has to be
+---   primitive, as it is in DER [X.690, 8.2 to 8.8, 8.19, 8.23, 8.25, 10.2]
+--- | this is not asked of ObjectDescriptor, REAL, RELATIVE-OID and TIME (7, 9, 13, 14) [ours]
 abbrev pub IsPrimitiveType : ℕ → Type 0
 IsPrimitiveType k = ((1 ≤ k) × (k ≤ 6)) ⊎ (k ≡ 10) ⊎ (k ≡ 12) ⊎ ((18 ≤ k) × (k ≤ 28)) ⊎ (k ≡ 30)
 
