@@ -214,8 +214,8 @@ fn lacks(given: Option<&Digests>, asked: &[HashAlg]) -> bool
     false
 }
 
-/// The report by digests. An error means out of memory, if no digest lacks and the content is not needed
-/// as octets.
+/// The report by digests, if none that is asked for is missing and the content is not needed as octets:
+/// then an error means out of memory.
 fn report_by_digests(
     alloc: Global,
     message: &Message,
@@ -321,9 +321,9 @@ fn report_by(
         → AreFindings (λ job. Unknown) message.now.value content octets r) }
     ensures err { IfErr result (λ e. e ≡ OutOfMemory) }
 {
-    match check_message_digests(alloc, message, detached, stamped) {
+    match report_by_digests(alloc, message, detached, stamped) {
         Ok(report) => Ok(report),
-        Err(_) => Err(Fault::OutOfMemory),
+        Err(AllocError) => Err(Fault::OutOfMemory),
     }
 }
 
