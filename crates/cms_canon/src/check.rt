@@ -21,8 +21,8 @@ use crate::digested::digests_from;
 use crate::message::{Message, Tail, View, read_message};
 use crate::rest::read_rest;
 use cms_check::{
-    Digests, Finding, Given, GivenDigests, HashAlg, NoReport, NoVerifier, Report, Verifier, check_digests,
-    check_request, check_request_digests, check_response, check_response_digests,
+    Digests, Finding, Given, GivenDigests, HashAlg, NoReport, NoVerifier, Report, Verifier,
+    check_digests, check_request, check_request_digests, check_response, check_response_digests,
 };
 use cms_command::After;
 use cms_listing::list_findings;
@@ -195,8 +195,10 @@ fn lacks_digest(
     ensures { IfOk result (λ lacks. lacks ≡ true → LacksAskedDigest message.now.value
         (option_copied detached.entry) (option_copied stamped.entry)) }
 {
-    Ok(lacks(detached, &asked_of_content(alloc, message)?)
-        || lacks(stamped, asked_of_data(alloc, message)?.as_slice()))
+    Ok(
+        lacks(detached, &asked_of_content(alloc, message)?)
+            || lacks(stamped, asked_of_data(alloc, message)?.as_slice()),
+    )
 }
 
 /// Whether digests are given, and none by one of these algorithms.

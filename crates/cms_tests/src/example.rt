@@ -3,7 +3,9 @@
 use crate::asserts::assert_same;
 use crate::samples::{SIGNED, message_of};
 use cms_check::{Job, Verdict, Verifier};
-use cms_example::{are_one_message, both, breaks, content_info_in_der, written, written_or_refused};
+use cms_example::{
+    are_one_message, both, breaks, content_info_in_der, written, written_or_refused,
+};
 use cms_tlv::{Fault, Reason};
 use std::test::Fail;
 
