@@ -21,8 +21,6 @@ SIGNATURE_ENDINGS = (".p7s", ".p7m", ".p7c", ".cms", ".tsq", ".tsr", ".tst")  # 
 _ELEMENT = b"\x30"
 _UTF_16 = (b"\xff\xfe", b"\xfe\xff")
 _BEGIN = b"-----BEGIN "
-_PDF = b"%PDF-"
-_PDF_WITHIN = 1024  # octets in which a PDF may begin
 
 
 def found_in(source: Source, depth: int = 0, mails: int = 0) -> Iterator[Found]:
@@ -56,7 +54,7 @@ def _look_for(source: Source, depth: int, mails: int) -> Look:
     """Returns what kind of file it seems to be, and what looks into it."""
     inner = partial(found_in, depth=depth + 1, mails=mails)
     packing = packed.packing_of(source)
-    if source.head.startswith(_PDF):
+    if source.head.startswith(pdf.BEGIN):
         return "PDF", partial(pdf.in_pdf, source)
     if zips.is_zip(source):
         return "zip", partial(_packed, source, depth, partial(zips.in_zip, source, inner))
@@ -76,7 +74,7 @@ def _look_for(source: Source, depth: int, mails: int) -> Look:
 
 def _or_pdf(source: Source, form: str, into: Into) -> Look:
     """Returns the same of a file in which a PDF may begin after something else, so that both are looked for."""
-    return ("PDF", partial(_in_late_pdf, source, into)) if _PDF in source.head[:_PDF_WITHIN] else (form, into)
+    return ("PDF", partial(_in_late_pdf, source, into)) if pdf.BEGIN in source.head[:pdf.BEGINS_WITHIN] else (form, into)
 
 
 def _in_late_pdf(source: Source, into: Into) -> Iterator[Found]:
