@@ -8,24 +8,23 @@ mutool, pikepdf (qpdf) and Python's email. What is missing is skipped by its nam
 """
 
 import base64
-import io
+import email
+import hashlib
 import re
 import subprocess
 import sys
-import zlib
-from functools import partial
+from email.policy import compat32, default
 from pathlib import Path
 from random import Random
 from typing import Callable, Dict, List, NamedTuple, Set, Tuple
 
-from archive import SECONDS, count, count_if, count_same, judged_in_a_copy, modules_of, tally
+from archive import SECONDS, TOP, count, count_if, count_same, judged_in_a_copy, modules_of, tally
 from archive_containers import DIFFERS, FITS, PARTLY, Case, Maker, said_of, write
 
 SEED = 3108
 PDFS, MAILS = 250, 2000
 HOLE = 8192  # hexadecimal digits of /Contents
 ROOM = 96  # octets for a ByteRange
-NOT_COMPARED = "files of the manifest not compared"
 
 
 # ---- PDFs
@@ -203,6 +202,190 @@ def judge_pdfs(archive, folder: Path, make, random: Random, number: int) -> None
     count(f"{len(odd_ones)} PDFs, of which {fit} signatures are said to fit without a note", wrong[:3] or ("" if fit > 10 else "too few fit"))
 
 
+# ---- mails
+
+SIGNED_PART = b"Content-Type: text/plain\r\n\r\nWhat was signed.\r\n"
+OTHER_PART = b"Content-Type: text/plain\r\n\r\nWhat was not signed.\r\n"
+
+
+class Letter(NamedTuple):
+    """How a mail is made, as a template of its header Content-Type, what lies before it, and how its parts are separated."""
+
+    kind: bytes = b'multipart/signed; protocol="application/pkcs7-signature"; micalg=sha-256; boundary="b"'
+    head: bytes = b""
+    name: bytes = b"Content-Type:"
+    after: bytes = b""
+    delimiter: bytes = b"--b"
+    decoy: bytes = b""
+    """What lies before the first delimiter."""
+    between: bytes = b"\r\n"
+    coding: bytes = b"base64"
+    value: Callable[[bytes], bytes] = lambda der: base64.encodebytes(der).replace(b"\n", b"\r\n")
+
+
+_DECOY = b"--c\r\n" + OTHER_PART + b"\r\n--c\r\nContent-Type: text/plain\r\n\r\n2\r\n--c--\r\n"
+_KIND = Letter().kind
+LETTERS: Dict[str, Letter] = {
+    "plain": Letter(),
+    "boundary twice": Letter(_KIND + b"; boundary=c", decoy=_DECOY),
+    "boundary twice, first": Letter(b"multipart/signed; boundary=c; boundary=b", decoy=_DECOY),
+    "boundary in capitals": Letter(_KIND + b"; BOUNDARY=c", decoy=_DECOY),
+    "boundary in segments": Letter(_KIND + b"; boundary*0=c", decoy=_DECOY),
+    "boundary encoded": Letter(b"multipart/signed; boundary*=us-ascii''b"),
+    "protocol twice": Letter(_KIND + b"; protocol=a/b"),
+    "a comment": Letter(_KIND + b" (a comment)"),
+    "a comment with a boundary": Letter(b"multipart/signed (; boundary=c); boundary=b", decoy=_DECOY),
+    "a comment before": Letter(b"(one) multipart/signed; boundary=b"),
+    "a quoted pair": Letter(b'multipart/signed; boundary="\\b"'),
+    "a boundary of two words": Letter(b"multipart/signed; boundary=b c"),
+    "a header twice": Letter(head=b"Content-Type: multipart/mixed; boundary=c\r\n", decoy=_DECOY),
+    "a header twice in capitals": Letter(_KIND.replace(b'"b"', b'"B"'), head=b"Content-Type: " + _KIND + b"\r\n"),
+    "a line that is no header": Letter(head=b"no header\r\n"),
+    "a blank before the colon": Letter(name=b"Content-Type :"),
+    "a lone CR": Letter(head=b"X-A: b\rContent-Type: multipart/mixed; boundary=c\r\n", decoy=_DECOY),
+    "an encoded multipart": Letter(after=b"Content-Transfer-Encoding: base64\r\n"),
+    "a lone CR before a boundary": Letter(decoy=b"x\r--b\r\n" + OTHER_PART + b"\r\n"),
+    "a lone CR after a boundary": Letter(decoy=b"--b\rX: y\r\n\r\n" + OTHER_PART + b"\r\n"),
+    "headers above 4 KiB": Letter(head=b"".join(b"X-%d: %s\r\n" % (it, b"y" * 60) for it in range(90))),
+    "blanks after a boundary": Letter(delimiter=b"--b \t"),
+    "characters that are not of base64": Letter(value=lambda der: b"**" + base64.encodebytes(der).replace(b"\n", b"\r\n*")),
+    "an empty parameter": Letter(_KIND.replace(b"; ", b";; ")),
+    "another encoding": Letter(coding=b"base64 (really)"),
+    "a preamble": Letter(decoy=b"A preamble.\r\n"),
+    "a folded header": Letter(_KIND.replace(b"; ", b";\r\n\t")),
+}
+MAILS_SAID = {  # the state, and the note, of part 2; or why the mail is damaged
+    "plain": (FITS, ""), "blanks after a boundary": (FITS, ""), "a preamble": (FITS, ""), "a folded header": (FITS, ""),
+    "headers above 4 KiB": (FITS, ""),
+    "a header twice": ("damaged", "two headers"), "a header twice in capitals": ("damaged", "two headers"),
+    "boundary twice": (FITS, "parameters or comments"), "boundary in capitals": (FITS, "parameters or comments"),
+    "boundary in segments": (FITS, "parameters or comments"), "boundary encoded": (FITS, "parameters or comments"),
+    "protocol twice": (FITS, "parameters or comments"), "a comment": (FITS, "parameters or comments"),
+    "a comment with a boundary": (FITS, "parameters or comments"), "a comment before": (FITS, "parameters or comments"),
+    "a quoted pair": (FITS, "parameters or comments"), "a line that is no header": (FITS, "a line among the headers"),
+    "a blank before the colon": (FITS, "a line among the headers"), "a lone CR": (FITS, "a lone CR among the headers"),
+    "an encoded multipart": (FITS, "said to be encoded"), "a lone CR before a boundary": (FITS, "lone CR beside a boundary"),
+    "characters that are not of base64": (FITS, "not of base64"), "an empty parameter": (FITS, "parameters or comments"),
+}
+
+
+def letter_of(letter: Letter, sign: Callable[[bytes], bytes]) -> bytes:
+    """Returns a signed mail."""
+    signature = b"Content-Type: application/pkcs7-signature; name=smime.p7s\r\nContent-Transfer-Encoding: " + letter.coding + b"\r\n\r\n"
+    return (
+        b"From: a@example.org\r\n" * (not letter.head.startswith(b"X-0")) + letter.head + b"MIME-Version: 1.0\r\n" + letter.name + b" " + letter.kind
+        + b"\r\n" + letter.after + b"\r\n" + letter.decoy + letter.delimiter + b"\r\n" + SIGNED_PART + letter.between + letter.delimiter + b"\r\n"
+        + signature + letter.value(sign(SIGNED_PART)) + b"\r\n--b--\r\n"
+    )
+
+
+def mixed_letter(random: Random) -> Letter:
+    letter, plain = Letter(), Letter()
+    for other in random.sample(list(LETTERS.values()), random.choice((0, 1, 1, 2))):
+        letter = letter._replace(**{name: getattr(other, name) for name in Letter._fields if getattr(other, name) != getattr(plain, name)})
+    return letter
+
+
+def spoilt_letter(random: Random, octets: bytes) -> bytes:
+    """Returns a mail of which some octets outside of the signed part are others: such as readers look at."""
+    changed = bytearray(octets)
+    for _ in range(random.choice((0, 1, 1, 2))):
+        at, end = random.randrange(len(changed)), changed.find(SIGNED_PART)
+        if at < end or at > end + len(SIGNED_PART):
+            piece = random.choice((b"\r", b"\n", b"\r\n", b" ", b";", b'"', b"(", b")", b"--b", b"\0", b":", b"=", b"\\", b"b", b"\t", b""))
+            changed[at : at + random.randrange(2)] = piece
+    return bytes(changed)
+
+
+def first_part(mail) -> bytes:
+    """Returns what Python's email shows of the first part of the outermost multipart/signed; nothing if there is none."""
+    for part in mail.walk():
+        if part.get_content_type() == "multipart/signed" and part.is_multipart():
+            return shown_of(part.get_payload(0))
+    return b""
+
+
+def shown_of(part) -> bytes:
+    leaves = (it.get_payload(decode=True) for it in part.walk() if not it.is_multipart())
+    return b"".join((it or b"").replace(b"\r\n", b"\n") + b"\0" for it in leaves)
+
+
+def seen_by_email(octets: bytes, policy) -> bytes:
+    try:
+        return first_part(email.message_from_bytes(octets, policy=policy))
+    except Exception:  # of any kind: a mail that it cannot take apart shows nothing
+        return b""
+
+
+JAVA_MAIL = [Path("/usr/share/java") / it for it in ("javax.mail.jar", "javax.activation.jar")]
+
+
+def has_java_mail() -> bool:
+    if not all(it.exists() for it in JAVA_MAIL):
+        tally.skip("JavaMail", "libmail-java is not installed")
+        return False
+    return True
+
+
+def seen_by_java(folder: Path) -> Dict[str, str]:
+    ran = subprocess.run(
+        ["java", "-cp", ":".join(map(str, JAVA_MAIL)), str(TOP / "tests" / "java" / "FirstParts.java"), str(folder)],
+        capture_output=True, text=True, timeout=SECONDS,
+    )
+    return dict(line.split(" ") for line in ran.stdout.splitlines())
+
+
+def seen_by_openssl(path: Path) -> bytes:
+    """Returns what openssl takes for the content of a mail, if it verifies it."""
+    words = ["openssl", "cms", "-verify", "-inform", "SMIME", "-noverify", "-in", str(path)]
+    ran = subprocess.run(words, capture_output=True, timeout=SECONDS)
+    return ran.stdout if ran.returncode == 0 else b""
+
+
+def judge_odd_mails(archive, folder: Path, make) -> None:
+    """Each oddity by itself is said as it is."""
+    for name, (state, note) in MAILS_SAID.items():
+        came, facts = said_of(archive, write(folder, f"{name}.eml", Case(letter_of(LETTERS[name], make.cms), "")))
+        where = "part 2" if "part 2" in came else next(iter(came))
+        is_so = came[where] == state and (note in facts[where].note if note else not facts[where].note)
+        count_if(f"mail with {name}", is_so, came, facts[where].note)
+    digest = b"From: a@example.org\r\nContent-Type: multipart/digest; boundary=d\r\n\r\n--d\r\n\r\n%s\r\n--d--\r\n" % letter_of(Letter(), make.cms)
+    came, _ = said_of(archive, write(folder, "digest.eml", Case(digest, "")))
+    count_same("a mail in a digest", came, {"part 1/mail.2": FITS, "": "container"})
+
+
+def judge_line_ends(archive, folder: Path, make) -> None:
+    """A part that was signed with LF as it is, as AS2 does it, fits with a note; with another octet it does not."""
+    part = SIGNED_PART.replace(b"\r\n", b"\n") + b"\0\n"
+    mail = letter_of(Letter(coding=b"binary", value=lambda der: der), lambda _: make.cms(part)).replace(SIGNED_PART, part)
+    for name, octets, wanted, note in (("as it is", mail, FITS, "with LF"), ("changed", mail.replace(b"What", b"Whet"), DIFFERS, "")):
+        came, facts = said_of(archive, write(folder, f"LF {name}.eml", Case(octets, "")))
+        count_if(f"a part with LF, {name}", came.get("part 2") == wanted and note in facts["part 2"].note, came, facts["part 2"].note)
+
+
+def judge_mails(archive, folder: Path, make, random: Random, number: int) -> None:
+    """What is said to fit without a note is what Python's email, JavaMail and openssl show of the part."""
+    der = make.cms(SIGNED_PART)
+    letters = [letter_of(it, lambda _: der) for it in LETTERS.values()]
+    letters += [spoilt_letter(random, letter_of(mixed_letter(random), lambda _: der)) for _ in range(number)]
+    wrong, fitting_ones, shown = [], [], shown_of(email.message_from_bytes(SIGNED_PART, policy=compat32))
+    for count_of, octets in enumerate(letters):
+        path = write(folder, f"{count_of:05d}.eml", Case(octets, ""))
+        if fitting(said_of(archive, path)[1]):
+            fitting_ones.append(path)
+    has_java = tally.has("java") and has_java_mail()
+    by_java = seen_by_java(folder) if has_java else {}
+    for path in fitting_ones:
+        octets = path.read_bytes()
+        views = [seen_by_email(octets, compat32), seen_by_email(octets, default)]
+        other = by_java.get(path.name)
+        if any(it != shown for it in views) or has_java and other != hashlib.sha256(shown).hexdigest():
+            wrong.append((path.name, views, other, octets[:600]))
+        elif seen_by_openssl(path) not in (b"", SIGNED_PART):
+            wrong.append((path.name, "openssl"))
+    count(f"{len(letters):,} mails, of which {len(fitting_ones):,} are said to fit without a note", wrong[:3] or ("" if len(fitting_ones) > len(letters) // 20 else "too few fit"))
+
+
 def judge_copy(home: Path) -> None:
     inner = (f"containers.{it}" for it in ("files", "found", "mail", "sources"))
     archive = modules_of(home, "judging", *inner)
@@ -212,6 +395,9 @@ def judge_copy(home: Path) -> None:
     if tally.has_package("pikepdf"):
         judge_odd_pdfs(archive, home / "odd", make)
         judge_pdfs(archive, home / "pdfs", make, random, pdfs)
+    judge_odd_mails(archive, home / "odd", make)
+    judge_line_ends(archive, home / "odd", make)
+    judge_mails(archive, home / "mails", make, random, mails)
 
 
 if __name__ == "__main__":

@@ -420,6 +420,10 @@ def _with_countersigned(state: State, message: cms_canon.Message) -> Tuple[State
     return state, ""
 
 
+def _note_of(found: Found) -> str:
+    return "; ".join(filter(None, (found.content.note if found.content else "", found.note)))
+
+
 def _where(found: Found, message: cms_canon.Message, is_token: bool) -> Optional[str]:
     if found.content is not None:
         return found.content.where
@@ -460,7 +464,6 @@ def _judged_message(found: Found, octets: bytes, verifies: bool) -> Facts:
     own = [_time("", message, state)] if is_token and signers else []
     times = own + _some(time for number, it in signers if it.unsigned_attributes for time in _attribute_times(number, it))
     of_times = next((f"token {it.number}: {it.state.value}" for it in times if it.number and it.state is State.DIFFERS), "")
-    of_content = found.content.note if found.content and found.content.note else found.note
     more = f" and {len(findings) - MOST_LISTED:,} more" if len(findings) > MOST_LISTED else ""
     return Facts(
         what=Class.MESSAGE,
@@ -470,7 +473,7 @@ def _judged_message(found: Found, octets: bytes, verifies: bool) -> Facts:
         content_type=None if message.content_type is None else _oid_name(message.content_type),
         content=_where(found, message, is_token),
         state=state,
-        note="; ".join(filter(None, (of_content, of_countersigners, of_times))),
+        note="; ".join(filter(None, (_note_of(found), of_countersigners, of_times))),
         findings="; ".join(map(str, findings[:MOST_LISTED])) + more,
         digests=_names([it.digest_algorithm.oid for _, it in signers]),
         signatures=_names([it.signature_algorithm.oid for _, it in signers]),
@@ -492,4 +495,4 @@ def judged(found: Found, verifies: bool = False) -> Facts:
         unread = Content(where, 0, (), State.UNREADABLE, f"{where}: {why_of(why)}")
         return judged(found.with_content(unread), verifies)
     except cms_canon.Refused as refused:
-        return Facts(what=Class.REFUSED, note=found.note, reason=refused.reason, name=refused.name, at=refused.at)
+        return Facts(what=Class.REFUSED, note=_note_of(found), reason=refused.reason, name=refused.name, at=refused.at)

@@ -108,7 +108,7 @@ def _look_for_text(source: Source, depth: int, mails: int) -> Look:
     search = partial(found_in, depth=depth, mails=mails + 1)
     if source.head.startswith(b"From "):
         return "mbox", partial(_in_mail, source, mails, partial(mail.in_mbox, source, search))
-    if mail.is_mail(source.head):
+    if mail.is_mail(source.head) or mail.is_mail_further(source):
         return "mail", partial(_in_mail, source, mails, partial(mail.in_mail, source, search))
     return _or_pdf(source, "text", partial(_in_text, source))
 

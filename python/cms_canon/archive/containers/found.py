@@ -110,6 +110,10 @@ class Found(NamedTuple):
         name = name.replace("!", r"\x21")
         return self._replace(where=f"{name}!{self.where}" if self.where else name)
 
+    def noted(self, *notes: str) -> Found:
+        """Returns the same with more that is to be said of it."""
+        return self._replace(note="; ".join(filter(None, (self.note, *notes))))
+
     def with_content(self, content: Optional[Content]) -> Found:
         """Returns the same with the content that it covers, of which it needs none any more."""
         return self._replace(content=content, is_detached=content is not None, wants=None)
