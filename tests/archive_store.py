@@ -395,7 +395,7 @@ def judge_replaced(home, archive, make):
     os.mkfifo(folder / "fifo.p7s")
     (folder / "link.p7s").symlink_to("/etc/hostname")
     errors = [row["error"] for part in archive.reading.parts_of(entries) for row in part.rows]
-    count_same("files that are replaced after they were listed", errors, ["it is not a regular file", "Too many levels of symbolic links"])
+    count_same("files that are replaced after they were listed", errors, ["it is a FIFO, and not a regular file", "Too many levels of symbolic links"])
     said = command_says(home, "export", "--to", home / "replaced copies", "--store", "replaced.db", status=1)
     count_same("export of files that were replaced", sorted(line.rpartition(": ")[2] for line in said.splitlines()), sorted(errors))
     said = command_says(home, "index", folder, "--store", "replaced.db")
@@ -518,7 +518,7 @@ def judge_names(home, folder, make):
     count_same("convert of a long name", [it.name for it in (home / "converted names").iterdir()], [long])
     os.mkfifo(names / "fifo")
     said = command_says(home, "same", names / "fifo", "--store", "asked.db", status=1)
-    count_same("same of a FIFO", said, f"Error: {names}/fifo: it is not a regular file\n")
+    count_same("same of a FIFO", said, f"Error: {names}/fifo: it is a FIFO, and not a regular file\n")
     came = [Path(line.split("\t")[0]).name for line in command(home, "same", folder / "copy.p7s", "--store", "asked.db").splitlines()]
     count_same("same", came, ["copy of it.p7s", "copy.p7s"])
     said = command(home, "check", "--all", "--json", "--store", "asked.db", status=1)

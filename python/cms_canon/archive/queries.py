@@ -2,13 +2,10 @@
 
 from __future__ import annotations
 
-import hashlib
 from itertools import groupby
 from typing import Any, Iterator, List, NamedTuple
 
 import sqlalchemy as sa
-
-import cms_canon
 
 from .containers.found import Class, State
 from .reading import Row
@@ -30,9 +27,9 @@ def name_of(row: Row) -> str:
     return f"{row['path']}!{row['member']}" if row["member"] else str(row["path"])
 
 
-def same(store: Store, octets: bytes) -> Iterator[Row]:
-    """Gives the files that are the message which the octets are. Raises `cms_canon.Refused` if they are none."""
-    return store.rows(FILES.c.digest == hashlib.sha256(cms_canon.convert(octets)).hexdigest())
+def same(store: Store, digest: str) -> Iterator[Row]:
+    """Gives the files that are the message whose DER has this SHA-256."""
+    return store.rows(FILES.c.digest == digest)
 
 
 def duplicates(store: Store) -> Iterator[Group]:

@@ -204,7 +204,8 @@ def in_zip(source: Source, search: Search) -> Iterator[Found]:
             except (Ended, MemoryError):
                 raise
             except Exception as why:  # zipfile and what it calls raise errors of any kind for a file that is damaged
-                yield Found(name, "file", Class.UNREADABLE if info.flag_bits & 1 else Class.DAMAGED, info.file_size, note=why_of(why))
+                what, note = (Class.UNREADABLE, "it is encrypted") if info.flag_bits & 1 else (Class.DAMAGED, why_of(why))
+                yield Found(name, "file", what, info.file_size, note=note)
         yield Found("", whole.form, Class.EMPTY, source.size, note=whole.note)
 
 
