@@ -7,14 +7,19 @@ A lying worker has stored names that are none, and names that lead out of the ar
 Paths are longer than the kernel takes, and files are FIFOs or encrypted. Each message is made by openssl.
 """
 
+import hashlib
 import os
+import re
 import sqlite3
+import struct
 import sys
 import zipfile
 from pathlib import Path
 
-from archive import command, command_says, count_if, count_same, judged_in_a_copy, lines_of, modules_of, ran, store_of, tally, write_files, zipped
-from archive_containers import DIFFERS, DOCUMENT, FITS, NO_DIGEST, Maker, bare_token
+import postgresql_server
+from archive import TOP, asked, command, command_says, count_if, count_same, judged_in_a_copy, lines_of, modules_of, ran, store_of, tally, tarred
+from archive import write_files, zipped
+from archive_containers import DIFFERS, DOCUMENT, FITS, NO_DIGEST, Maker, bare_token, made_jar
 
 NAMES_OF_A_LIAR = ("a\\x00", "a\\xzz", "..\\x2f..\\x2fsecret.p7m", "..", "a\\x2e")
 
@@ -115,6 +120,106 @@ def judge_encrypted(home, archive):
     count_same("an encrypted member", (one.what.value, one.note), ("unreadable", "it is encrypted"))
 
 
+def judge_weak(home, make):
+    """`algorithms --weak` counts imprints, manifests and the signatures of certificates, and not only signers."""
+    make.run("openssl req -x509 -newkey rsa:2048 -sha1 -nodes -keyout old.key -out old.pem -subj /CN=Old -days 1")
+    by_old = make.run("openssl cms -sign -binary -nodetach -signer old.pem -inkey old.key -md sha256 -outform DER", octets=DOCUMENT)
+    (make.folder / "query").write_bytes(make.run(f"openssl ts -query -digest {hashlib.sha1(DOCUMENT).hexdigest()} -sha1 -cert"))
+    settings = (TOP / "tests" / "data" / "time-stamping.cnf").read_text()
+    write_files(make.folder, {"sha1.cnf": re.sub(r"(?m)^(digests *=.*)$", r"\1, sha1", settings).encode()})
+    stamp = make.run("openssl ts -reply -queryfile query -token_out -config sha1.cnf")
+    members = {"old.p7m": by_old, "doc.tst": stamp, "doc": DOCUMENT, "md5.jar": made_jar(make, {"doc": DOCUMENT}, "MD5", "md5"),
+               "good.jar": made_jar(make, {"doc": DOCUMENT})}
+    command(home, "index", write_files(home / "weak", members), "--store", "weak.db")
+    lines = lines_of(home, "algorithms", "--weak", "--store", "weak.db")
+    came = sorted((it["of"], it["digest"], it["signature"], Path(it["file"]).name.partition("!")[0]) for it in lines)
+    wanted = [("certificate", None, "rsa-sha1", "old.p7m"), ("manifest", "md5", None, "META-INF"), ("time-stamp", "sha1", None, "doc.tst")]
+    count_same("what is weak", [(it[0], it[1], it[2]) for it in came], [it[:3] for it in wanted])
+    counts = {(it["of"], it["digest"], it["signature"]): (it["signers"], it["is_weak"]) for it in lines_of(home, "algorithms", "--store", "weak.db")}
+    weak_ones = {key: value for key, value in counts.items() if value[1]}
+    count_same("how much of it", weak_ones, {it[:3]: (1, True) for it in wanted})
+
+
+OLE = b"\xd0\xcf\x11\xe0\xa1\xb1\x1a\xe1" + bytes(600)
+TIME_STAMPED = bytes.fromhex("301a060b2a864886f70d010910011fa00b3009020101a0043002a000")
+EVIDENCE = bytes.fromhex("3020020101300d300b0609608648016503040201a10c") + bytes(12)
+NOT_READ = {  # the class and the form of files
+    "a.7z": (b"7z\xbc\xaf\x27\x1c" + bytes(30), "not looked into", "7z"), "a.rar": (b"Rar!\x1a\x07\x01\0" + bytes(30), "not looked into", "RAR"),
+    "a.cab": (b"MSCF" + bytes(60), "not looked into", "cab"), "a.deb": (b"!<arch>\ndebian-binary   0", "not looked into", "deb"),
+    "a.msi": (OLE, "not looked into", "MSI"), "a.msg": (OLE, "not looked into", "Outlook message"), "a.doc": (OLE, "not looked into", "OLE document"),
+    "a.exe": (b"MZ" + bytes(70_000) + zipped({"a": b"b"}), "not looked into", "self-extracting zip"),
+    "xades.xml": (b'<S xmlns="http://www.w3.org/2000/09/xmldsig#" xmlns:x="http://uri.etsi.org/01903/v1.3.2#"><SignatureValue/></S>',
+                  "other signed format", "XAdES"),
+    "a.ers": (EVIDENCE, "other signed format", "evidence record"), "a.tsd": (TIME_STAMPED, "other signed format", "TimeStampedData"),
+    "ers.xml": (b'<EvidenceRecord xmlns="urn:ietf:params:xml:ns:ers"/>', "other signed format", "evidence record"),
+    "a.sig": (b"\x88\x5e\4" + bytes(90), "other signed format", "OpenPGP"),
+}
+
+
+def with_block(octets: bytes) -> bytes:
+    """Returns a zip with a block of APK, of scheme 2, before its list of members."""
+    at = octets.rindex(b"PK\1\2") if octets.count(b"PK\1\2") == 1 else octets.index(b"PK\1\2")
+    pair = struct.pack("<QI", 8, 0x7109871A) + bytes(4)
+    block = struct.pack("<Q", len(pair) + 24) + pair + struct.pack("<Q", len(pair) + 24) + b"APK Sig Block 42"
+    end = bytearray(octets[at:])
+    place = end.rindex(b"PK\5\6") + 16
+    end[place : place + 4] = struct.pack("<I", at + len(block))
+    return octets[:at] + block + bytes(end)
+
+
+def judge_not_read(home):
+    """What is not looked into has a row, is listed and counted, by itself and in a zip and a tar."""
+    files = {name: octets for name, (octets, _, _) in NOT_READ.items()}
+    apk = with_block(zipped({"AndroidManifest.xml": b"\3\0\x08\0", "classes.dex": b"dex"}))
+    packed = {"all.zip": zipped(files), "all.tar": tarred(files), "v2.apk": apk}
+    command(home, "index", write_files(home / "not read", {**files, **packed}), "--store", "others.db")
+    lines = lines_of(home, "others", "--store", "others.db")
+    came = {it["file"].partition("/not read/")[2]: (it["what"], it["form"]) for it in lines}
+    wanted = {name: (what, form) for name, (_, what, form) in NOT_READ.items()}
+    wanted.update({f"all.{kind}!{name}": it for kind in ("zip", "tar") for name, it in list(wanted.items()) if "!" not in name})
+    count_same("what is not looked into", came, {**wanted, "v2.apk!APK signing block": ("other signed format", "APK signing block")})
+    count_same("the scheme of an APK", [it["note"] for it in lines if "v2.apk" in it["file"]], ["scheme 2"])
+    command(home, "report", "--html", home / "others.html", "--store", "others.db")
+    count_if("the report of it", "not looked into" in (home / "others.html").read_text(), "no count")
+
+
+OLD_STORE_SAYS = {("/f/a.zip", "r.p7m"): "fits", ("/f/doc.p7s", ""): "fits", ("/f/doc.tst", ""): "fits"}
+DEGRADED = (  # has a store on PostgreSQL the tables of 0.17.0
+    "DROP VIEW files", "DROP VIEW signers", "DROP VIEW times", "ALTER TABLE place_signers DROP COLUMN certificate",
+    "ALTER TABLE places DROP CONSTRAINT places_what", "ALTER TABLE places ADD CONSTRAINT places_what CHECK (what <> 'not looked into')",
+    "UPDATE about SET value = '3' WHERE name = 'schema'",
+)
+
+
+def judge_migration(home, make):
+    """A store of 0.17.0 gets the tables of now and keeps its rows; what it did not know is stored in it from then on."""
+    files = write_files(home / "migrated", {"doc": DOCUMENT, "doc.p7s": make.cms(DOCUMENT)})
+    with sqlite3.connect(home / "old.db") as store:
+        store.executescript((TOP / "tests" / "data" / "store-0.17.0.sql").read_text())
+    lines_of(home, "check", "--store", "old.db")
+    came = {(it.path, it.member): it.state for it in store_of(home / "old.db") if it.state}
+    count_same("a store of 0.17.0 that is asked", came, OLD_STORE_SAYS)
+    judge_migrated(home, files, home / "old.db")
+    (files / "a.7z").unlink()
+    if postgresql_server.is_there(tally):
+        with postgresql_server.server() as server:
+            url = server.make_database("older")
+            command(home, "index", files, "--store", url)
+            for statement in DEGRADED:
+                asked(url, statement)
+            judge_migrated(home, files, url)
+
+
+def judge_migrated(home, files, store):
+    write_files(files, {"a.7z": NOT_READ["a.7z"][0]})
+    command(home, "index", files, "--store", store, "--anew")
+    where = str(store).partition(":")[0] if "://" in str(store) else "sqlite"
+    came = {Path(it["file"]).name: it["form"] for it in lines_of(home, "others", "--store", store)}
+    count_same(f"what a store of 0.17.0 did not know, {where}", came, {"a.7z": "7z"})
+    signed = [it["certificate"] for it in lines_of(home, "signers", "--store", store) if "/migrated/" in it["file"]]
+    count_same(f"the algorithms of certificates in it, {where}", signed, ["rsa-sha256"])
+
+
 def judge_copy(home):
     archive = modules_of(home, "judging", "reading", "containers.files")
     make = Maker(home / "made")
@@ -123,6 +228,9 @@ def judge_copy(home):
     judge_long_path(home, make)
     judge_same(home, make)
     judge_encrypted(home, archive)
+    judge_weak(home, make)
+    judge_not_read(home)
+    judge_migration(home, make)
 
 
 if __name__ == "__main__":

@@ -549,7 +549,8 @@ def apks(make) -> Dict[str, Case]:
     signed = (make.folder / "signed.apk").read_bytes()
     changed = zipped({**unzipped(signed), "classes.dex": b"other"})
     block = next(it for it in unzipped(signed) if it.endswith(".RSA"))
-    return {"signed.apk": Case(signed, "container", {block: NO_DIGEST}), "changed.apk": Case(changed, "container", {block: DIFFERS})}
+    of_block = {"APK signing block": "other signed format"}
+    return {"signed.apk": Case(signed, "container", {block: NO_DIGEST}, others=of_block), "changed.apk": Case(changed, "container", {block: DIFFERS})}
 
 
 def packed(make) -> Dict[str, Case]:

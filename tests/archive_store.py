@@ -299,10 +299,10 @@ def judge_migration(home, folder):
     count_same("a store of 0.4.0 that is asked", came, {"doc.bin.p7s": None, "doc.tst": None, "q.tsq": None})
     command(home, "index", folder, "--store", old)
     count_same("a store of 0.4.0 that is indexed", of_first(old), FIRST_STORE_SAYS)
-    asked(old, "UPDATE about SET value = '4' WHERE name = 'schema'")
+    asked(old, "UPDATE about SET value = '5' WHERE name = 'schema'")
     for words in (("check",), ("index", folder)):
         said = command_says(home, *words, "--store", old, status=1)
-        count_if(f"a newer store, {words[0]}", is_line(said, "tables of version 4"), said)
+        count_if(f"a newer store, {words[0]}", is_line(said, "tables of version 5"), said)
     asked(old, "UPDATE about SET value = 'many' WHERE name = 'schema'")
     said = command_says(home, "check", "--store", old, status=1)
     count_same("a version that is no number", said, "Error: the store says a version of its tables that is no number\n")
@@ -518,7 +518,7 @@ def judge_names(home, folder, make):
     count_same("convert of a long name", [it.name for it in (home / "converted names").iterdir()], [long])
     os.mkfifo(names / "fifo")
     said = command_says(home, "same", names / "fifo", "--store", "asked.db", status=1)
-    count_same("same of a FIFO", said, f"Error: {names}/fifo: it is a FIFO, and not a regular file\n")
+    count_same("same of a FIFO", said, f"{names}/fifo: it is a FIFO, and not a regular file\n")
     came = [Path(line.split("\t")[0]).name for line in command(home, "same", folder / "copy.p7s", "--store", "asked.db").splitlines()]
     count_same("same", came, ["copy of it.p7s", "copy.p7s"])
     said = command(home, "check", "--all", "--json", "--store", "asked.db", status=1)

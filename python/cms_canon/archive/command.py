@@ -345,19 +345,32 @@ def signers_command(url: str, wait: Optional[float], form: Optional[str]) -> Non
 
 
 @main.command("algorithms")
-@click.option("--weak", is_flag=True, help="List the signers that stand on MD5, SHA-1, or keys of RSA or DSA below 2,048 bits.")
+@click.option("--weak", is_flag=True, help="List what stands on MD5, SHA-1, or keys of RSA or DSA below 2,048 bits.")
 @_store
 @_wait
 @_json
 @_csv
 def algorithms_command(weak: bool, url: str, wait: Optional[float], form: Optional[str]) -> None:
-    """List on which algorithms and keys signers stand, and how many each."""
+    """List on which algorithms and keys signers, certificates, time-stamps and manifests stand, and how many each.
+
+    Of certificates these are the algorithms by which they are signed, and of manifests only what they compare by MD5 or SHA-1 alone.
+    """
     store = Store(url, wait=wait)
     columns = ("digest", "signature", "key", "bits")
     if weak:
-        _write(_with_name(queries.signers(store, only_weak=True)), form, (*columns, "number", "file"))
+        _write(_with_name(queries.weak(store)), form, ("of", *columns, "number", "file"))
     else:
-        _write(queries.algorithms(store), form, ("signers", *columns, "is_weak"))
+        _write(queries.algorithms(store), form, ("signers", "of", *columns, "is_weak"))
+
+
+@main.command("others")
+@_store
+@_wait
+@_json
+@_csv
+def others_command(url: str, wait: Optional[float], form: Optional[str]) -> None:
+    """List what is signed by another format, as XAdES or OpenPGP, and what is not looked into, as 7z."""
+    _write(_with_name(queries.others(Store(url, wait=wait))), form, ("what", "form", "note", "file"))
 
 
 @main.command("times")

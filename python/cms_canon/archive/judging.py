@@ -65,6 +65,8 @@ class Signer(NamedTuple):
     """As `RSA` or the name of a curve."""
     bits: Optional[int] = None
     """Those of the key."""
+    certificate: Optional[str] = None
+    """The algorithm by which the certificate is signed."""
 
 
 class Time(NamedTuple):
@@ -119,6 +121,7 @@ class _Certificate(NamedTuple):
     not_after: Optional[str] = None
     key: Optional[str] = None
     bits: Optional[int] = None
+    signature: Optional[str] = None
 
 
 _NO_CERTIFICATE = _Certificate(b"", 0, None)
@@ -133,6 +136,13 @@ def _key_of(certificate: x509.Certificate) -> Tuple[Optional[str], Optional[int]
     if isinstance(key, ec.EllipticCurvePublicKey):
         return key.curve.name, key.key_size
     return type(key).__name__.strip("_").replace("PublicKey", ""), None
+
+
+def _signature_of(certificate: x509.Certificate) -> str:
+    """Returns the algorithm by which a certificate is signed, as `rsa-sha1`, also if the digest is in its parameters."""
+    name = _oid_name(certificate.signature_algorithm_oid.dotted_string)
+    hashed = certificate.signature_hash_algorithm
+    return f"{name}-{hashed.name}" if name == "rsa-pss" and hashed is not None else name
 
 
 def _certificate(octets: bytes) -> Optional[_Certificate]:
@@ -161,6 +171,7 @@ def _read_certificate(octets: bytes) -> Optional[_Certificate]:
         names = read.issuer.rfc4514_string(), read.subject.rfc4514_string()
         times = read.not_valid_before.isoformat() + "Z", read.not_valid_after.isoformat() + "Z"
         found = found._replace(issuer_text=names[0], subject=names[1], not_before=times[0], not_after=times[1])
+        found = found._replace(signature=_signature_of(read))
         key, bits = _key_of(read)
         return found._replace(key=key, bits=bits)
     except Exception:  # whatever `cryptography` raises for a certificate or a key that it does not take
@@ -225,6 +236,7 @@ def _signer(number: str, it: cms_canon.SignerInfo, certificates: List[_Certifica
         not_after=known.not_after,
         key=known.key,
         bits=known.bits,
+        certificate=known.signature,
     )
 
 

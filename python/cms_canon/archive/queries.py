@@ -2,12 +2,15 @@
 
 from __future__ import annotations
 
+from collections import Counter
+from enum import Enum
 from itertools import groupby
 from typing import Any, Iterator, List, NamedTuple
 
 import sqlalchemy as sa
 
 from .containers.found import Class, State
+from .containers.manifests import WEAK_ALONE
 from .reading import Row
 from .store import FILES, SIGNERS, TIMES, Store
 
@@ -76,20 +79,76 @@ def is_weak(table: Any = SIGNERS.c) -> Any:
     return is_digest | is_signature | (table.key.in_(("RSA", "DSA")) & (table.bits < FEWEST_BITS))
 
 
-def signers(store: Store, only_weak: bool = False) -> Iterator[Row]:
+def signers(store: Store) -> Iterator[Row]:
     """Gives the signers and countersigners of the messages."""
-    return store.asked(_joined(SIGNERS, *([is_weak()] if only_weak else [])))
+    return store.asked(_joined(SIGNERS))
+
+
+class StandsOn(str, Enum):
+    """What stands on algorithms."""
+
+    SIGNER = "signer"
+    CERTIFICATE = "certificate"
+    TIME_STAMP = "time-stamp"
+    MANIFEST = "manifest"
+
+
+_ALGORITHMS = ("digest", "signature", "key", "bits")
+
+
+def is_weak_certificate(table: Any = SIGNERS.c) -> Any:
+    """Returns the condition that the certificate of a signer is signed with MD5 or SHA-1."""
+    return sa.or_(*(table.certificate.like(f"%-{it}") for it in WEAK_DIGESTS))
+
+
+def weak(store: Store) -> Iterator[Row]:
+    """Gives what stands on MD5, SHA-1 or a short key: signers, the signatures of their certificates, imprints of time-stamps, and manifests."""
+    for row in store.asked(_joined(SIGNERS, is_weak())):
+        yield {**row, "of": StandsOn.SIGNER.value}
+    for row in store.asked(_joined(SIGNERS, is_weak_certificate())):
+        yield {**row, "digest": None, "signature": row["certificate"], "key": None, "bits": None, "of": StandsOn.CERTIFICATE.value}
+    for row in store.asked(_joined(TIMES, TIMES.c.digest.in_(WEAK_DIGESTS))):
+        yield {**row, "signature": None, "key": None, "bits": None, "of": StandsOn.TIME_STAMP.value}
+    for row in store.rows(FILES.c.note.like("%compares by % alone%")):
+        for digest in _weak_in(row["note"]):
+            alone = {"digest": digest, "signature": None, "key": None, "bits": None, "number": "", "of": StandsOn.MANIFEST.value}
+            yield {"path": row["path"], "member": row["member"], **alone}
+
+
+def _weak_in(note: str) -> List[str]:
+    """Returns the weak digests by which a manifest or a signature file compares alone, as a note says it."""
+    return sorted({it for found in WEAK_ALONE.findall(note) for it in found if it})
 
 
 def algorithms(store: Store) -> Iterator[Row]:
-    """Gives which algorithms and keys signers stand on, and how many signers each."""
-    columns = (SIGNERS.c.digest, SIGNERS.c.signature, SIGNERS.c.key, SIGNERS.c.bits)
-    weak = sa.func.max(sa.case((is_weak(), 1), else_=0)).label("is_weak")
-    asked = sa.select(*columns, sa.func.count().label("signers"), weak).group_by(*columns).order_by(sa.func.count().desc(), *columns)
+    """Gives on which algorithms and keys signers, the signatures of certificates, imprints and weak manifests stand, and how many of each."""
+    columns = [SIGNERS.c[it] for it in _ALGORITHMS]
+    is_weak_one = sa.func.max(sa.case((is_weak(), 1), else_=0)).label("is_weak")
+    asked = sa.select(*columns, sa.func.count().label("signers"), is_weak_one).group_by(*columns).order_by(sa.func.count().desc(), *columns)
     for row in store.asked(asked):
-        yield {**row, "is_weak": bool(row["is_weak"])}
+        yield {**row, "is_weak": bool(row["is_weak"]), "of": StandsOn.SIGNER.value}
+    yield from _counted(store, SIGNERS.c.certificate, "signature", StandsOn.CERTIFICATE)
+    yield from _counted(store, TIMES.c.digest, "digest", StandsOn.TIME_STAMP)
+    manifests = Counter(it for row in store.rows(FILES.c.note.like("%compares by % alone%")) for it in _weak_in(row["note"]))
+    for digest, count in sorted(manifests.items()):
+        yield {**dict.fromkeys(_ALGORITHMS), "digest": digest, "signers": count, "is_weak": True, "of": StandsOn.MANIFEST.value}
+
+
+def _counted(store: Store, column: Any, name: str, of: StandsOn) -> Iterator[Row]:
+    asked = sa.select(column.label("algorithm"), sa.func.count().label("count")).where(column.is_not(None)).group_by(column).order_by(sa.func.count().desc(), column)
+    for row in store.asked(asked):
+        is_weak_one = str(row["algorithm"]).rpartition("-")[2] in WEAK_DIGESTS
+        yield {**dict.fromkeys(_ALGORITHMS), name: row["algorithm"], "signers": row["count"], "is_weak": is_weak_one, "of": of.value}
 
 
 def times(store: Store) -> Iterator[Row]:
     """Gives the times that tokens vouch for, as messages and in unsigned attributes."""
     return store.asked(_joined(TIMES))
+
+
+_OTHERS = (Class.OTHER.value, Class.NOT_LOOKED_INTO.value)
+
+
+def others(store: Store) -> Iterator[Row]:
+    """Gives what is signed by another format, and what is not looked into."""
+    return store.rows(FILES.c.what.in_(_OTHERS), order=(FILES.c.what, FILES.c.form, FILES.c.path, FILES.c.member))

@@ -63,6 +63,8 @@ def _look_for(source: Source, depth: int, mails: int) -> Look:
         return packing.name, partial(_packed, source, depth, into)
     if packed.is_tar(source):
         return "tar", partial(_packed, source, depth, packed.Tar(source, None, inner).found)
+    if (archive := named.archive(source)) is not None:
+        return archive.form, lambda: iter((archive,))
     if source.head and not source.head.translate(None, TEXT) or mail.is_mail(source.head):
         return _look_for_text(source, depth, mails)
     if source.head.startswith(_UTF_16):
@@ -119,8 +121,8 @@ def _in_text(source: Source) -> Iterator[Found]:
         yield base64
         return
     octets = source.octets()
-    if named.xml_signature(octets):
-        yield Found("", "XML signature", Class.OTHER, len(octets))
+    if (xml := named.in_xml(octets)) is not None:
+        yield xml
     elif _BEGIN in octets:
         yield from _as_named(source, octets, armour.in_pem(octets, source))
     else:
@@ -151,8 +153,11 @@ def _message(source: Source, octets: bytes) -> Found:
 
 def _in_octets(source: Source) -> Iterator[Found]:
     """Gives what a file that is no text is by itself."""
+    if (known := named.in_asn_1(source)) is not None:
+        yield known
+        return
     if source.head.startswith(_ELEMENT) or source.name.lower().endswith(SIGNATURE_ENDINGS):
         yield _message(source, source.octets())
         return
-    known = named.authenticode(source) or named.openpgp(source)
+    known = named.authenticode(source) or named.openpgp(source) or named.archive(source) or named.self_extracting(source)
     yield known or Found("", "file", Class.NO_CANDIDATE, source.size, note="" if source.head else "empty")

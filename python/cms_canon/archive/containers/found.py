@@ -17,6 +17,7 @@ class Class(str, Enum):
     CONTAINER = "container"
     EMPTY = "container without message"
     OTHER = "other signed format"
+    NOT_LOOKED_INTO = "not looked into"
     TEXT = "text"
     NO_CANDIDATE = "not a candidate"
     DAMAGED = "damaged"

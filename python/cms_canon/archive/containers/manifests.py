@@ -4,6 +4,7 @@ from __future__ import annotations
 
 import hashlib
 import posixpath
+import re
 from typing import AbstractSet, Callable, Dict, Iterable, List, NamedTuple, Optional, Sequence, Set, Tuple
 
 from .found import State
@@ -12,6 +13,7 @@ Digest = Callable[[str, Set[str]], Optional[Dict[str, bytes]]]
 """Returns the digests of a file by these algorithms, as hashlib names them; None if there is no such file."""
 NAMED = 3  # files that a note names
 WEAK = {"md5", "sha1"}  # algorithms by which another file with the same digest can be made
+WEAK_ALONE = re.compile(r"compares by (md5|sha1)(?: and (md5|sha1))? alone")  # in a note
 _BAD = [State.FITS, State.PARTLY, State.NOT_COMPARED, State.DIFFERS]  # the last is the worst
 _ALGORITHMS = {
     **{it: it for it in ("md5", "sha1", "sha224", "sha256", "sha384", "sha512")},

@@ -89,6 +89,21 @@ class Source:
             self.size = len(self._octets)
         return self._octets
 
+    def tail(self, most: int) -> bytes:
+        """Returns the last octets, at most so many. What is read forward is read to its end for that, and cannot be read again."""
+        if self._octets is not None:
+            return self._octets[-most:]
+        if self._is_seekable:
+            self._file.seek(max(0, self.size - most))
+            octets = self._file.read(most)
+            self.budget.take(len(octets))
+            return octets
+        last = self.head[-most:]
+        while piece := self._file.read(PIECE):
+            self.budget.take(len(piece))
+            last = (last + piece)[-most:]
+        return last
+
     def _read_at_once(self) -> bytes:
         """Returns all of a file whose size is known, of which pieces would take twice the memory."""
         self._file.seek(0)

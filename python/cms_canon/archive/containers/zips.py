@@ -11,7 +11,7 @@ from dataclasses import replace
 from functools import cached_property
 from typing import BinaryIO, Callable, Dict, FrozenSet, Iterator, List, NamedTuple, Optional, Set
 
-from . import asic, jar
+from . import asic, jar, named
 from .found import Class, Content, Found, State
 from .manifests import Compared, at_best, compared, not_covered, plain
 from .packed import Damaged, content_read, why_of
@@ -23,6 +23,7 @@ ENDINGS = (".zip", ".jar", ".war", ".apk", ".xpi", ".asics", ".asice", ".scs", "
 MAGICS = (b"PK\3\4", b"PK\5\6")
 MOST_IN_DIRECTORY = 128 << 20  # octets of the list of members, which is read at once
 MOST_IN_ZIP = 250_000  # members of one zip, for each of which zipfile makes an object
+MOST_OF_A_BLOCK = 1 << 20  # octets before the list of members in which it is looked for which schemes of APK there are
 MOST_SIGNATURES = 1000  # of one JAR or ASiC container that are compared with its members
 _OCTETS_OF_A_NAME = 64  # that count as read if a signature is compared with a member
 _END_MAGIC, _ENTRY_MAGIC = b"PK\5\6", b"PK\1\2"
@@ -206,7 +207,21 @@ def in_zip(source: Source, search: Search) -> Iterator[Found]:
             except Exception as why:  # zipfile and what it calls raise errors of any kind for a file that is damaged
                 what, note = (Class.UNREADABLE, "it is encrypted") if info.flag_bits & 1 else (Class.DAMAGED, why_of(why))
                 yield Found(name, "file", what, info.file_size, note=note)
+        if (block := _apk_block(source, opened.start_dir)) is not None:
+            yield block
         yield Found("", whole.form, Class.EMPTY, source.size, note=whole.note)
+
+
+def _apk_block(source: Source, end: int) -> Optional[Found]:
+    """Returns the block before the list of members that signs all of an APK."""
+    file = source.begun()
+    file.seek(max(0, end - len(named.APK_BLOCK)))
+    if file.read(len(named.APK_BLOCK)) != named.APK_BLOCK:
+        return None
+    file.seek(max(0, end - MOST_OF_A_BLOCK))
+    octets = file.read(min(end, MOST_OF_A_BLOCK))
+    source.budget.take(len(octets))
+    return named.apk_block(octets)
 
 
 def _in_member(
