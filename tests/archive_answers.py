@@ -19,7 +19,7 @@ from pathlib import Path
 import postgresql_server
 from archive import TOP, asked, command, command_says, count_if, count_same, judged_in_a_copy, lines_of, modules_of, ran, store_of, tally, tarred
 from archive import write_files, zipped
-from archive_containers import DIFFERS, DOCUMENT, FITS, NO_DIGEST, Maker, bare_token, made_jar
+from archive_containers import DIFFERS, DOCUMENT, FITS, NO_DIGEST, Maker, bare_token, made_jar, place_of, signed_pdf
 
 NAMES_OF_A_LIAR = ("a\\x00", "a\\xzz", "..\\x2f..\\x2fsecret.p7m", "..", "a\\x2e")
 
@@ -220,6 +220,37 @@ def judge_migrated(home, files, store):
     count_same(f"the algorithms of certificates in it, {where}", signed, ["rsa-sha256"])
 
 
+def judge_signed_content(home, archive, make):
+    """What is signed is looked into as any container is: a signed PDF, what is signed again, a signed mail in an opaque one, a zip."""
+    pdf = signed_pdf(make)
+    of_pdf = make.cms(pdf, "-nodetach")
+    twice = make.cms(of_pdf, "-nodetach")
+    opaque = make.run("openssl cms -sign -nodetach -signer signer.pem -inkey signer.key -md sha256 -from a@example.org", octets=make.mail())
+    wrong = make.cms(pdf.replace(b"/MediaBox [0 0 200", b"/MediaBox [0 0 201"), "-nodetach")
+    place, deep = place_of(pdf), make.cms(b"text", "-nodetach")
+    for _ in range(8):
+        deep = make.cms(deep, "-nodetach")
+    zipped_in = make.cms(zipped({"doc.p7s": make.cms(DOCUMENT), "doc": DOCUMENT}), "-nodetach")
+    cases = {
+        "doc.pdf.p7m": (of_pdf, {"": FITS, "signed content": "container", f"signed content!{place}": FITS}),
+        "wrong.pdf.p7m": (wrong, {"": FITS, "signed content": "container", f"signed content!{place}": DIFFERS}),
+        "doc.pdf.p7m.p7m": (twice, {"": FITS, "signed content": FITS, "signed content!signed content": "container",
+                                    f"signed content!signed content!{place}": FITS}),
+        "pem/doc.pdf.p7m": (make.cms(pdf, "-nodetach", form="PEM"), {"": FITS, "signed content": "container", f"signed content!{place}": FITS}),
+        "opaque.eml": (opaque, {"": "container", "body": FITS, "body!signed content": "container", "body!signed content!part 2": FITS}),
+        "zip.p7m": (zipped_in, {"": FITS, "signed content": "container", "signed content!doc.p7s": FITS}),
+        "in.zip": (zipped({"doc.pdf.p7m": of_pdf}), {
+            "": "container", "doc.pdf.p7m": FITS, "doc.pdf.p7m!signed content": "container", f"doc.pdf.p7m!signed content!{place}": FITS}),
+        "text.p7m": (make.cms(b"text", "-nodetach"), {"": FITS}),
+        "certificate.p7m": (make.cms(make.run("openssl x509 -in signer.pem -outform DER"), "-nodetach"), {"": FITS}),
+        "deep.p7m": (deep, {"!".join(["signed content"] * depth): FITS if depth < 5 else "too large" for depth in range(6)}),
+    }
+    for name, (octets, wanted) in cases.items():
+        path = write_files(home / "signed", {name: octets}) / name
+        facts = {it.where: archive.judging.judged(it) for it in archive.files.found_in_path(str(path))}
+        count_same(f"what is in {name}", {where: it.state.value if it.state else it.what.value for where, it in facts.items()}, wanted)
+
+
 def judge_copy(home):
     archive = modules_of(home, "judging", "reading", "containers.files")
     make = Maker(home / "made")
@@ -229,6 +260,7 @@ def judge_copy(home):
     judge_same(home, make)
     judge_encrypted(home, archive)
     judge_weak(home, make)
+    judge_signed_content(home, archive, make)
     judge_not_read(home)
     judge_migration(home, make)
 

@@ -7,7 +7,9 @@ only say that it is something else.
 from __future__ import annotations
 
 from functools import partial
-from typing import Callable, Dict, Iterator, Tuple
+from typing import Callable, Dict, Iterator, Optional, Tuple
+
+import cms_canon
 
 from . import armour, mail, named, packed, pdf, zips
 from .found import Class, Found, counted
@@ -19,6 +21,8 @@ Look = Tuple[str, Into]  # what kind of file it seems to be, and what looks into
 
 SIGNATURE_ENDINGS = (".p7s", ".p7m", ".p7c", ".cms", ".tsq", ".tsr", ".tst")  # a file so named lies where a message is due
 _ELEMENT = b"\x30"
+_DATA = tuple(bytes.fromhex("2a864886f70d010701") + it for it in (b"\xa0", b"\x24", b"\x04"))  # the type of contents, and how one begins
+_SIGNED_CONTENT = "signed content"
 _UTF_16 = (b"\xff\xfe", b"\xfe\xff")
 _BEGIN = b"-----BEGIN "
 
@@ -33,6 +37,9 @@ def found_in(source: Source, depth: int = 0, mails: int = 0) -> Iterator[Found]:
     own = None
     try:
         for it in counted(look(), tally):
+            if it.what is Class.MESSAGE and not it.is_opened:
+                yield from _in_signed_content(it, source, depth, mails)
+                it = it._replace(is_opened=True)
             if it.where == "":
                 own = it
             else:
@@ -48,6 +55,49 @@ def found_in(source: Source, depth: int = 0, mails: int = 0) -> Iterator[Found]:
     if own is None or own.what is Class.EMPTY:
         own = Found("", own.form if own else form, Class.CONTAINER if tally else Class.EMPTY, source.size, note=own.note if own else "")
     yield own
+
+
+def _in_signed_content(message: Found, source: Source, depth: int, mails: int) -> Iterator[Found]:
+    """Gives what is in the content that a message holds itself, if that is something."""
+    octets = _content_of(message)
+    if octets is None:
+        return
+    source.budget.take(len(octets))
+    inner = in_memory((armour.wanted_by(source.name) or "") if message.where == "" else "", octets, source.budget)
+    if depth < DEEPEST:
+        found = found_in(inner, depth + 1, mails + 1)
+    elif _look_for(inner, depth, mails)[0] not in ("text", "file") or _content_of(message._replace(octets=octets)) is not None:
+        found = iter((Found("", "signed content", Class.TOO_LARGE, len(octets), note=f"signed contents are nested more than {DEEPEST} deep"),))
+    else:
+        return
+    for it in found:
+        if it.what in (Class.TEXT, Class.NO_CANDIDATE, Class.EMPTY) or _is_something_else(it):
+            continue
+        it = (it.with_content(None) if it.wants else it).within(_SIGNED_CONTENT)
+        yield it._replace(where=f"{message.where}!{it.where}") if message.where else it
+
+
+def _content_of(message: Found) -> Optional[bytes]:
+    """Returns the data that a message signs and holds; None if there are none."""
+    octets = message.octets or b""
+    if not any(it in octets for it in _DATA):  # which costs much less than to read it
+        return None
+    try:
+        read = cms_canon.read(octets)
+    except cms_canon.Refused:
+        return None
+    return bytes(read.content) if read.content else None
+
+
+def _is_something_else(it: Found) -> bool:
+    """Whether what may be a message in signed content is none, as a certificate."""
+    if it.where or it.what is not Class.MESSAGE or it.octets is None:
+        return False
+    try:
+        cms_canon.convert(it.octets)
+    except cms_canon.Refused:
+        return True
+    return False
 
 
 def _look_for(source: Source, depth: int, mails: int) -> Look:

@@ -105,6 +105,8 @@ class Found(NamedTuple):
     """The name of the file beside it which it covers, as long as nobody has looked for that."""
     note: str = ""
     """Why it is so, or what else is to be said."""
+    is_opened: bool = False
+    """Whether the content that it holds itself has been looked into."""
 
     def within(self, name: str) -> Found:
         r"""Returns the same as it is called from outside the member of this name, in which `!` is written as `\x21`."""

@@ -22,7 +22,7 @@ _END_OF_ZIP = re.compile(rb"(?s)PK\x05\x06.{8}(....)(....)..")
 _LONGEST_END = 22 + 0xFFFF  # octets of the end of a zip, with its comment
 _LENGTH = rb"(?:[\0-\x7f]|\x81.|\x82..|\x83...|\x84....|\x80)"
 _TIME_STAMPED_DATA = re.compile(rb"(?s)\x30" + _LENGTH + rb"\x06\x0b\x2a\x86\x48\x86\xf7\x0d\x01\x09\x10\x01\x1f\xa0")
-_EVIDENCE_RECORD = re.compile(rb"(?s)\x30" + _LENGTH + rb"\x02\x01\x01\x30" + _LENGTH + rb"\x30" + _LENGTH + rb"\x06")
+_EVIDENCE_RECORD = re.compile(rb"(?s)\x30" + _LENGTH + rb"\x02\x01\x01\x30" + _LENGTH + rb"(?=\x30" + _LENGTH + rb"\x06)")
 _XML_EVIDENCE_RECORD = b"urn:ietf:params:xml:ns:ers"
 _XADES = b"http://uri.etsi.org/01903/"
 _XML_SIGNATURE = (b"http://www.w3.org/2000/09/xmldsig#", b"SignatureValue")
@@ -69,8 +69,17 @@ def in_asn_1(source: Source) -> Optional[Found]:
     """Returns what a file is that begins as data that are time-stamped (RFC 5544) or as an evidence record (RFC 4998)."""
     if _TIME_STAMPED_DATA.match(source.head):
         return Found("", "TimeStampedData", Class.OTHER, source.size)
-    is_record = _EVIDENCE_RECORD.match(source.head) and _is_refused(source.octets())  # a request begins so too
+    begin = _EVIDENCE_RECORD.match(source.head)
+    is_record = begin and not _is_imprint(source.head, begin.end()) and _is_refused(source.octets())
     return Found("", "evidence record", Class.OTHER, source.size) if is_record else None
+
+
+def _is_imprint(octets: bytes, at: int) -> bool:
+    """Whether after the algorithm that begins there a digest follows, as in a request, which begins as an evidence record does."""
+    length = octets[at + 1]
+    more = length & 0x7F if length & 0x80 else 0
+    after = at + 2 + more + (int.from_bytes(octets[at + 2 : at + 2 + more], "big") if more else length)
+    return octets[after : after + 1] in (b"\x04", b"\x24")
 
 
 def _is_refused(octets: bytes) -> bool:
