@@ -8,16 +8,18 @@ Paths are longer than the kernel takes, and files are FIFOs or encrypted. Each m
 """
 
 import hashlib
+import json
 import os
 import re
 import sqlite3
 import struct
 import sys
+import time
 import zipfile
 from pathlib import Path
 
 import postgresql_server
-from archive import TOP, asked, command, command_says, count_if, count_same, judged_in_a_copy, lines_of, modules_of, ran, store_of, tally, tarred
+from archive import SETTLED, TOP, asked, command, command_says, count_if, count_same, judged_in_a_copy, lines_of, modules_of, ran, store_of, tally, tarred
 from archive import write_files, zipped
 from archive_containers import DIFFERS, DOCUMENT, FITS, NO_DIGEST, Maker, bare_token, made_jar, place_of, signed_pdf
 
@@ -251,6 +253,43 @@ def judge_signed_content(home, archive, make):
         count_same(f"what is in {name}", {where: it.state.value if it.state else it.what.value for where, it in facts.items()}, wanted)
 
 
+def judge_release(home, archive, make):
+    """Files are read again only if their rows would be others: not for a release alone. A release with the same number stores the same rows."""
+    members = {"doc": DOCUMENT, "doc.p7s": make.cms(DOCUMENT), "one.pdf": signed_pdf(make), "a.zip": zipped({"doc.p7s": make.cms(DOCUMENT), "doc": DOCUMENT}),
+               "mail.eml": make.mail(), "doc.tst": make.token(DOCUMENT), "md5.jar": made_jar(make, {"doc": DOCUMENT}, "MD5", "md5"), "cut.p7s": b"0\x82"}
+    folder = write_files(home / "released", members)
+    time.sleep(SETTLED)
+    command(home, "index", folder, "--store", "release.db")
+    for statement, wanted in (("library = '0.0.1'", 0), (f"reader = {archive.reading.READER - 1}", len(members))):
+        asked(home / "release.db", f"UPDATE places SET {statement}")
+        said = command_says(home, "index", folder, "--store", "release.db")
+        count_if(f"rows with {statement}", said.startswith(f"{wanted} files read, {len(members) - wanted} unchanged"), said)
+    wheel = next((TOP / "dist" / "packages").glob("cms_canon-*.whl"))
+    released = home / "wheel"
+    with zipfile.ZipFile(wheel) as packed:
+        packed.extractall(released)
+    rows = [[json.loads(line) for line in ran(at, "rows", folder).stdout.splitlines()] for at in (released, home)]
+    for row in (it for some in rows for it in some):
+        row.pop("library", None)
+    readers = [{row["reader"] for row in some if "reader" in row} for some in rows]
+    count_if("a release with other rows has another number", rows[0] == rows[1] or max(readers[0]) < min(readers[1]), readers)
+
+
+def judge_progress(home, make):
+    """Times that cannot be, and notes that are long, are not shown as a worker that lies has them."""
+    folder = write_files(home / "progress", {"one.p7m": make.cms(DOCUMENT, "-nodetach")})
+    command(home, "index", folder, "--store", "progress.db")
+    asked(home / "progress.db", "UPDATE workers SET ended = NULL, seen = -1000000000000, began = -5, note = NULL")
+    said = command(home, "progress", "--store", "progress.db")
+    count_if("times before 1970", "seen at an unknown time" in said and "1000000000000" not in said, said)
+    (line,) = lines_of(home, "progress", "--store", "progress.db")
+    count_same("these times in JSON", {(it["seen"], it["began"]) for it in line["workers"]}, {(None, None)})
+    asked(home / "progress.db", f"UPDATE workers SET note = '{'x' * 1_000_000}'")
+    for words in ((), ("--json",)):
+        said = command(home, "progress", "--store", "progress.db", *words)
+        count_if(f"a long note {' '.join(words)}", "xxx" in said and len(said) < 5000, len(said))
+
+
 def judge_copy(home):
     archive = modules_of(home, "judging", "reading", "containers.files")
     make = Maker(home / "made")
@@ -263,6 +302,8 @@ def judge_copy(home):
     judge_signed_content(home, archive, make)
     judge_not_read(home)
     judge_migration(home, make)
+    judge_release(home, archive, make)
+    judge_progress(home, make)
 
 
 if __name__ == "__main__":
