@@ -7,7 +7,9 @@ A lying worker has stored names that are none, and names that lead out of the ar
 Paths are longer than the kernel takes, and files are FIFOs or encrypted. Each message is made by openssl.
 """
 
+import base64
 import hashlib
+import io
 import json
 import os
 import re
@@ -290,6 +292,43 @@ def judge_progress(home, make):
         count_if(f"a long note {' '.join(words)}", "xxx" in said and len(said) < 5000, len(said))
 
 
+def pdf_with(files):
+    """Returns a PDF with attached files, each of which is deflated."""
+    import pikepdf
+
+    pdf, out = pikepdf.new(), io.BytesIO()
+    pdf.add_blank_page(page_size=(200, 200))
+    for name, octets in files.items():
+        pdf.attachments[name] = pikepdf.AttachedFileSpec(pdf, octets, filename=name)
+    pdf.save(out, compress_streams=True, recompress_flate=True)
+    return out.getvalue()
+
+
+def judge_not_found(home, archive, make):
+    """What lies in an attachment of a PDF, in PEM of any label or after a byte-order mark, or under a name that is none, is found."""
+    signed, der = make.cms(DOCUMENT, "-nodetach", form="PEM"), make.cms(DOCUMENT, "-nodetach")
+    wrong_name = zipped({"\u00e9a.p7m": der}).replace("\u00e9".encode(), b"\xff\xff")
+    nameless = bytearray(zipped({"x": der}))
+    for mark, place in ((b"PK\3\4", 26), (b"PK\1\2", 28)):  # the octet of the name is one of what follows it
+        begin = nameless.index(mark) + place
+        nameless[begin : begin + 4] = struct.pack("<2H", 0, 1)
+    cases = {
+        "mark.pem": (b"\xef\xbb\xbf" + signed, {"": FITS}), "gpgsm.pem": (signed.replace(b"CMS-", b"SIGNED MESSAGE-"), {"": FITS}),
+        "label.pem": (signed.replace(b"CMS-", b"any Label, at all-"), {"": FITS}), "base64.p7m": (b"\xef\xbb\xbf" + base64.encodebytes(der), {"": FITS}),
+        "certificate.pem": ((make.folder / "signer.pem").read_bytes(), {"": "not a candidate"}),
+        "nameless.zip": (nameless, {"(no name)": FITS, "": "container"}),
+        "wrong name.zip": (wrong_name, {"\u00a0\u00a0a.p7m": FITS, "": "container"}),
+    }
+    if tally.has_package("pikepdf"):
+        wanted = {"": "container", "attachment a.p7m": FITS, "attachment in.zip": "container", "attachment in.zip!b.p7m": FITS}
+        cases["attached.pdf"] = (pdf_with({"a.p7m": der, "in.zip": zipped({"b.p7m": der}), "text.txt": b"text"}), wanted)
+        cases["bomb.pdf"] = (pdf_with({"bomb.p7m": bytes(300 << 20)}), {"": "container without message", "attachment bomb.p7m": "too large"})
+    for name, (octets, wanted) in cases.items():
+        path = write_files(home / "not found", {name: octets}) / name
+        facts = {it.where: archive.judging.judged(it) for it in archive.files.found_in_path(str(path))}
+        count_same(f"what is in {name}", {where: it.state.value if it.state else it.what.value for where, it in facts.items()}, wanted)
+
+
 def judge_copy(home):
     archive = modules_of(home, "judging", "reading", "containers.files")
     make = Maker(home / "made")
@@ -300,6 +339,7 @@ def judge_copy(home):
     judge_encrypted(home, archive)
     judge_weak(home, make)
     judge_signed_content(home, archive, make)
+    judge_not_found(home, archive, make)
     judge_not_read(home)
     judge_migration(home, make)
     judge_release(home, archive, make)

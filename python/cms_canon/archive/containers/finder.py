@@ -105,7 +105,7 @@ def _look_for(source: Source, depth: int, mails: int) -> Look:
     inner = partial(found_in, depth=depth + 1, mails=mails)
     packing = packed.packing_of(source)
     if source.head.startswith(pdf.BEGIN):
-        return "PDF", partial(pdf.in_pdf, source)
+        return "PDF", partial(pdf.in_pdf, source, partial(_in_attached, depth, mails))
     if zips.is_zip(source):
         return "zip", partial(_packed, source, depth, partial(zips.in_zip, source, inner))
     if packing is not None:
@@ -121,17 +121,25 @@ def _look_for(source: Source, depth: int, mails: int) -> Look:
         return "text", partial(_in_utf_16, source)
     if source.head.startswith(_ELEMENT):
         return "file", partial(_in_octets, source)
-    return _or_pdf(source, "file", partial(_in_octets, source))
+    return _or_pdf(source, "file", partial(_in_octets, source), depth, mails)
 
 
-def _or_pdf(source: Source, form: str, into: Into) -> Look:
+def _in_attached(depth: int, mails: int, source: Source) -> Iterator[Found]:
+    """Gives what is in a file that is attached to a PDF, if it is not too deep inside others."""
+    if depth >= DEEPEST:
+        return iter((Found("", "file", Class.TOO_LARGE, source.size, note=f"packed files are nested more than {DEEPEST} deep"),))
+    return found_in(source, depth + 1, mails)
+
+
+def _or_pdf(source: Source, form: str, into: Into, depth: int, mails: int) -> Look:
     """Returns the same of a file in which a PDF may begin after something else, so that both are looked for."""
-    return ("PDF", partial(_in_late_pdf, source, into)) if pdf.BEGIN in source.head[:pdf.BEGINS_WITHIN] else (form, into)
+    late = partial(_in_late_pdf, source, into, partial(_in_attached, depth, mails))
+    return ("PDF", late) if pdf.BEGIN in source.head[:pdf.BEGINS_WITHIN] else (form, into)
 
 
-def _in_late_pdf(source: Source, into: Into) -> Iterator[Found]:
+def _in_late_pdf(source: Source, into: Into, search: packed.Search) -> Iterator[Found]:
     """Gives the signatures of a PDF, and what else there is in the file."""
-    yield from pdf.in_pdf(source)
+    yield from pdf.in_pdf(source, search)
     yield from (it for it in into() if it.where or it.what not in (Class.TEXT, Class.NO_CANDIDATE))
 
 
@@ -162,7 +170,7 @@ def _look_for_text(source: Source, depth: int, mails: int) -> Look:
         return "mbox", partial(_in_mail, source, mails, partial(mail.in_mbox, source, search))
     if mail.is_mail(source.head) or mail.is_mail_further(source):
         return "mail", partial(_in_mail, source, mails, partial(mail.in_mail, source, search))
-    return _or_pdf(source, "text", partial(_in_text, source))
+    return _or_pdf(source, "text", partial(_in_text, source), depth, mails)
 
 
 def _in_text(source: Source) -> Iterator[Found]:

@@ -44,11 +44,25 @@ class _TooManyFields(Exception):
 
 
 class Form(NamedTuple):
-    """What the form of a PDF has."""
+    """What the form of a PDF has, and the files that are attached to it."""
 
     signatures: List[FormSignature]
     why_unsure: str
     """Why it may have other signatures for other readers; empty if that is not so."""
+    attached: List[Tuple[str, Any]] = []
+    """The names of files with their streams, as the parser has them."""
+    pdf: Any = None
+    """The parser, which reads them."""
+
+
+class Attachment(NamedTuple):
+    """A file that is attached to a PDF."""
+
+    name: str
+    octets: bytes
+    """As they are in the PDF."""
+    filters: Tuple[str, ...]
+    """How they are packed: by none of these if there are none."""
 
 
 def _data_octets() -> int:
@@ -79,21 +93,65 @@ def form_of(octets: bytes, budget: Budget) -> Form:
     except ModuleNotFoundError:
         return Form([], "which signatures its form has is not known: this needs the package pikepdf")
     signatures: List[FormSignature] = []
-    why = ""
+    attached: List[Tuple[str, Any]] = []
+    pdf, why = None, ""
     with _little_memory():
         try:
-            with pikepdf.open(BytesIO(octets), attempt_recovery=False) as pdf:  # or it would look for objects in all octets
-                for it in _signatures_of(pikepdf, pdf):
-                    budget.take_member()
-                    signatures.append(it)
-                why = _DAMAGED if any(_HARMLESS not in str(it) for it in pdf.get_warnings()) else ""
+            pdf = pikepdf.open(BytesIO(octets), attempt_recovery=False)  # or it would look for objects in all octets
+            for it in _signatures_of(pikepdf, pdf):
+                budget.take_member()
+                signatures.append(it)
+            attached = list(_attached_to(pikepdf, pdf.Root, budget))
+            why = _DAMAGED if any(_HARMLESS not in str(it) for it in pdf.get_warnings()) else ""
         except _TooManyFields:
             why = f"its form has more than {MOST_FIELDS:,} fields, so that not all of its signatures are known"
         except pikepdf.PasswordError:
             why = "which signatures its form has is not known: that needs a password"
         except (pikepdf.PdfError, AttributeError, KeyError, TypeError, ValueError, RuntimeError, ArithmeticError, MemoryError):
             why = _DAMAGED
-    return Form(signatures, why)
+    return Form(signatures, why, attached, pdf)
+
+
+def _attached_to(pikepdf: Any, root: Any, budget: Budget) -> Iterator[Tuple[str, Any]]:
+    """Gives the files that are named as embedded, or as associated with the document."""
+    names = root.get("/Names")
+    left = [names.get("/EmbeddedFiles")] if isinstance(names, pikepdf.Dictionary) else []
+    own = root.get("/AF")
+    specifications = list(own) if isinstance(own, pikepdf.Array) else []
+    nodes: Set[Tuple[int, int]] = set()
+    while left:
+        node = left.pop()
+        budget.take_member()
+        if not isinstance(node, pikepdf.Dictionary) or node.is_indirect and node.objgen in nodes:
+            continue
+        nodes.add(node.objgen)
+        left += [it for it in node.get("/Kids", ()) if it.is_indirect] if isinstance(node.get("/Kids"), pikepdf.Array) else []
+        specifications += list(node.get("/Names"))[1::2] if isinstance(node.get("/Names"), pikepdf.Array) else []
+        if len(specifications) + len(nodes) > MOST_FIELDS:
+            raise _TooManyFields
+    yield from _streams_of(pikepdf, specifications)
+
+
+def _streams_of(pikepdf: Any, specifications: List[Any]) -> Iterator[Tuple[str, Any]]:
+    """Gives the streams of files, each once, with their names."""
+    given: Set[Tuple[int, int]] = set()
+    for it in specifications:
+        embedded = it.get("/EF") if isinstance(it, pikepdf.Dictionary) else None
+        for key in ("/UF", "/F") if isinstance(embedded, pikepdf.Dictionary) else ():
+            stream = embedded.get(key)
+            if isinstance(stream, pikepdf.Stream) and stream.objgen not in given:
+                given.add(stream.objgen)
+                yield str(it.get("/UF", it.get("/F", "without name")))[:200], stream
+
+
+def attachments_of(form: Form, budget: Budget) -> Iterator[Attachment]:
+    """Gives the files that are attached, one at a time."""
+    for name, stream in form.attached:
+        octets = stream.read_raw_bytes()
+        budget.take(len(octets))
+        filters = stream.get("/Filter", ())
+        some = [filters] if str(filters).startswith("/") else list(filters)
+        yield Attachment(name, octets, tuple(str(it)[1:33] for it in some))
 
 
 def _signatures_of(pikepdf: Any, pdf: Any) -> Iterator[FormSignature]:

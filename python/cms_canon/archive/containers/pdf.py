@@ -9,14 +9,18 @@ from __future__ import annotations
 
 import binascii
 import re
+import zlib
 from dataclasses import replace
-from typing import Dict, Iterator, List, NamedTuple, Optional, Sequence, Tuple
+from io import BytesIO, RawIOBase
+from typing import Callable, Dict, Iterator, List, NamedTuple, Optional, Sequence, Tuple
 
 import cms_canon
 
-from .forms import FormSignature, form_of
+from .forms import Form, FormSignature, attachments_of, form_of
 from .found import Class, Content, Found, Pieces, State, digest_of
-from .sources import Budget, Source, TooLarge
+from .sources import PIECE, Budget, Source, TooLarge
+
+Search = Callable[[Source], Iterator[Found]]
 
 _RANGE = re.compile(rb"/ByteRange\s*\[\s*(\d{1,12})\s+(\d{1,12})\s+(\d{1,12})\s+(\d{1,12})\s*\]")
 _SUBFILTER = re.compile(rb"/SubFilter\s*/([A-Za-z0-9._#-]{1,64})")
@@ -235,14 +239,49 @@ class _Pdf:
             yield Found(f"{where} to others", "PDF", Class.TOO_LARGE, 0, note=note)
 
 
-def in_pdf(source: Source) -> Iterator[Found]:
-    """Gives each signature of a PDF in the order of the file, of all its revisions, then how many ByteRanges cannot be used, and last the PDF."""
+class _Inflated(RawIOBase):
+    """What is packed by zlib, unpacked as it is read."""
+
+    def __init__(self, octets: bytes) -> None:
+        self._rest = octets
+        self._unpack = zlib.decompressobj()
+
+    def read(self, size: int = -1) -> bytes:
+        octets = self._unpack.decompress(self._rest, min(size, PIECE) if size >= 0 else PIECE)
+        self._rest = self._unpack.unconsumed_tail
+        return octets
+
+
+def _in_attachments(source: Source, form: Form, search: Search) -> Iterator[Found]:
+    """Gives what is in the files that are attached."""
+    for it in attachments_of(form, source.budget):
+        place = f"attachment {it.name}"
+        if it.filters not in ((), ("FlateDecode",)):
+            yield Found(place, "PDF", Class.NOT_LOOKED_INTO, len(it.octets), note=f"an attachment that is packed by {' and '.join(it.filters)}")
+            continue
+        file = _Inflated(it.octets) if it.filters else BytesIO(it.octets)
+        try:
+            yield from _in_attachment(place, search(source.inner(it.name, file, 0 if it.filters else len(it.octets))))
+        except zlib.error as why:
+            yield Found(place, "PDF", Class.DAMAGED, len(it.octets), note=str(why))
+
+
+def _in_attachment(place: str, found: Iterator[Found]) -> Iterator[Found]:
+    for it in found:
+        if it.what not in (Class.TEXT, Class.NO_CANDIDATE):
+            yield (it.with_content(None) if it.wants else it).within(place)
+
+
+def in_pdf(source: Source, search: Search) -> Iterator[Found]:
+    """Gives each signature of a PDF in the order of the file, of all its revisions, then how many ByteRanges cannot be used, what is in the files that
+    are attached, and last the PDF."""
     pdf = _Pdf(source)
     for some in list(pdf.ranges.by_hole.values()):
         yield from pdf.in_hole(sorted(some.values(), key=lambda it: it.distance))
     for it, why in pdf.refused:
         yield Found(f"signature in {it.field or 'a field without name'}", f"PDF {it.subfilter}", Class.DAMAGED, 0, note=why)
     yield from pdf.ranges.refused(pdf.ranges.of_form_alone + sum(it.has_range for it, _ in pdf.refused))
+    yield from _in_attachments(source, pdf.form, search)
     yield Found("", "PDF", Class.EMPTY, source.size, note=pdf.form.why_unsure)
     if pdf.ranges.is_too_many:
         raise TooLarge(f"it has more than {MOST_RANGES:,} ByteRanges")

@@ -3,6 +3,7 @@
 from __future__ import annotations
 
 import hashlib
+import io
 import re
 import struct
 import zipfile
@@ -33,6 +34,10 @@ _END = struct.Struct("<4s4H2LH")
 _END_64 = struct.Struct("<4sQ2H2L4Q")
 _OOXML = re.compile(r"_xmlsignatures/[^/]+\.xml\Z", re.I)
 _ODF = "META-INF/documentsignatures.xml"
+NO_NAME = "(no name)"
+_UTF_8 = 0x800  # of the flags of a member: its name is in UTF-8
+_OCTETS_OF_AN_ENTRY = 46  # without its name and what follows it
+_ENTRY = struct.Struct("<4s4xH18xHHH")  # of the list of members: the mark, the flags, and the octets of the name and of what follows it
 _TWICE = "two members have one name"
 
 
@@ -192,7 +197,9 @@ def in_zip(source: Source, search: Search) -> Iterator[Found]:
     file = source.begun()
     end = _end_of(file)
     _refuse_many(file, end, source.budget)
-    with zipfile.ZipFile(file) as opened:
+    with _opened(source, file, end) as opened:
+        for nameless in (it for it in opened.infolist() if not it.filename):
+            nameless.filename = NO_NAME  # or zipfile would look for its last character
         whole = _Zip(source, opened, end.after)
         manifests = _manifests_of(whole)
         for info in opened.infolist():
@@ -210,6 +217,37 @@ def in_zip(source: Source, search: Search) -> Iterator[Found]:
         if (block := _apk_block(source, opened.start_dir)) is not None:
             yield block
         yield Found("", whole.form, Class.EMPTY, source.size, note=whole.note)
+
+
+def _opened(source: Source, file: BinaryIO, end: _End) -> zipfile.ZipFile:
+    """Opens a zip. A name that is said to be in UTF-8 and is not is read as one that is not said to be, which zipfile would not do."""
+    try:
+        return zipfile.ZipFile(file)
+    except UnicodeDecodeError:
+        octets = bytearray(source.octets())
+    at = end.at - end.octets
+    while octets.startswith(_ENTRY_MAGIC, at):
+        _, flags, *lengths = _ENTRY.unpack_from(octets, at)
+        begin = at + _OCTETS_OF_AN_ENTRY
+        if flags & _UTF_8 and not _is_utf_8(octets[begin : begin + lengths[0]]):
+            struct.pack_into("<H", octets, at + 8, flags & ~_UTF_8)
+        at = begin + sum(lengths)
+    whole = io.BytesIO(octets)
+    opened = zipfile.ZipFile(whole)
+    with whole.getbuffer() as view:
+        for it in opened.infolist():
+            place = it.header_offset + 7  # of the flags before the member itself
+            if not it.flag_bits & _UTF_8 and place < len(view):
+                view[place] &= ~(_UTF_8 >> 8) & 0xFF
+    return opened
+
+
+def _is_utf_8(octets: bytes) -> bool:
+    try:
+        octets.decode()
+    except UnicodeDecodeError:
+        return False
+    return True
 
 
 def _apk_block(source: Source, end: int) -> Optional[Found]:
