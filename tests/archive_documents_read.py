@@ -34,6 +34,7 @@ class Odd(NamedTuple):
 
     ranges: str = "/ByteRange [0 {0} {1} {2}]"
     contents: bytes = b"/Contents %HOLE%"
+    kind: bytes = b"/SubFilter /adbe.pkcs7.detached"
     more: bytes = b""
     """What else is in the dictionary of the signature."""
     fields: bytes = b"100 0 R"
@@ -71,6 +72,17 @@ ODDITIES: Dict[str, Odd] = {
     "a field of another kind": Odd(field=b" /FT /Tx"),
     "a field in a page alone": Odd(fields=b"", more=b" /Note (in no form)"),
     "odd digits": Odd(digits=HOLE - 1),
+    "a value that is direct": Odd(
+        value=b"<< /Type /Sig /Filter /Adobe.PPKLite /SubFilter /adbe.pkcs7.detached %RANGE% /Contents %HOLE% >>", others=((10, b"null"),)),
+    "a comment before Contents": Odd(contents=b"/Contents %a comment\n%HOLE%"),
+    "two fields of one signature": Odd(fields=b"100 0 R 102 0 R", others=((102, b"<< /T (T) /FT /Sig /V 10 0 R >>"),)),
+    "two fields, one of another": Odd(fields=b"102 0 R 100 0 R", others=(
+        (102, b"<< /T (T) /FT /Sig /V 103 0 R >>"), (103, b"<< /Type /Sig /SubFilter /adbe.pkcs7.detached /ByteRange [0 %RANGES%] /Contents <00> >>"))),
+    "no SubFilter": Odd(kind=b""),
+    "another SubFilter": Odd(kind=b"/SubFilter /ETSI.CAdES.detached"),
+    "SubFilter of SHA-1": Odd(kind=b"/SubFilter /adbe.pkcs7.sha1"),
+    "SubFilter twice": Odd(kind=b"/SubFilter /adbe.pkcs7.sha1 /SubFilter /adbe.pkcs7.detached"),
+    "a catalog that is another": Odd(more=b" >>\nendobj\n1 0 obj\n<< /Type /Catalog /Pages 2 0 R"),
     "octets before": Odd(before=b"\n\n"),
     "a line before": Odd(before=b"%!PS something\n"),
     "counted octets before": Odd(before=b"\n\n", counts_before=True),
@@ -83,7 +95,7 @@ def objects_of(odd: Odd) -> Dict[int, bytes]:
     return {
         1: b"<< /Type /Catalog /Pages 2 0 R /AcroForm << /Fields [%s] /SigFlags 3 >> >>" % odd.fields,
         2: b"<< /Type /Pages /Kids [3 0 R] /Count 1 >>", 3: b"<< /Type /Page /Parent 2 0 R /MediaBox [0 0 200 200] >>",
-        10: b"<< /Type /Sig /Filter /Adobe.PPKLite /SubFilter /adbe.pkcs7.detached %%RANGE%% %s%s >>" % (odd.contents, odd.more),
+        10: b"<< /Type /Sig /Filter /Adobe.PPKLite %s %%RANGE%% %s%s >>" % (odd.kind, odd.contents, odd.more),
         100: b"<< /T (S) /V %s%s /Type /Annot /Subtype /Widget /Rect [0 0 0 0] >>" % (odd.value, odd.field),
         **dict(odd.others),
     }
@@ -169,6 +181,8 @@ PDFS_SAID: Dict[str, Tuple[str, str]] = {  # the state or the class, and the not
     "no ByteRange": (FITS, "no field of the form"), "a ByteRange in a string": (FITS, "no field of the form"),
     "octets before": (PARTLY, "readers differ on the 2 octets before the PDF"), "counted octets before": (FITS, "2 octets before the PDF"),
     "a field without its parent": (FITS, "does not say that it is one"), "a field of another kind": (FITS, "does not say that it is one"),
+    "a value that is direct": (FITS, "no object of its own"), "no SubFilter": (FITS, "without a SubFilter that they know"),
+    "a comment before Contents": (FITS, ""), "two fields of one signature": (FITS, ""), "another SubFilter": (FITS, ""),
     "octets after": ("fits an earlier revision", "octets follow"), "six numbers": ("damaged", "has 6 numbers"),
 }
 

@@ -158,7 +158,7 @@ def _take_over(connection: sa.engine.Connection) -> None:
     for name, table in LISTS.items():
         other = _OLD["signers" if name == "signed_by" else name]
         if other in there:
-            _copy(connection, other, table, {}, {it.name for it in table.columns})
+            _copy(connection, other, table, {}, {it["name"] for it in sa.inspect(connection).get_columns(other)})
     for other in _OLD.values():
         connection.exec_driver_sql(f"DROP TABLE IF EXISTS {other}")
 

@@ -20,6 +20,7 @@ MEMORY = 64 << 20  # octets that the parser may take
 _PAGE = resource.getpagesize()
 _DAMAGED = "the PDF is damaged, so that readers may differ on its signatures"
 _ODD_FIELD = "the field of this signature does not say that it is one, or in which field it is, so that readers differ"
+_SUBFILTERS = tuple(f"/{it}" for it in ("adbe.pkcs7.detached", "adbe.pkcs7.sha1", "adbe.x509.rsa_sha1", "ETSI.CAdES.detached", "ETSI.RFC3161"))
 _HARMLESS = "reported number of objects"  # of a warning: which no reader believes
 _PERMISSIONS = ("/DocMDP", "/UR3", "/UR")
 
@@ -182,6 +183,16 @@ def _values_of(pikepdf: Any, root: Any) -> Iterator[Tuple[str, Any, str]]:
             left.append((name[:200], it.get("/Kids"), False))
 
 
+def _oddities(value: Any, subfilter: Any, is_whole: bool) -> Iterator[str]:
+    """Gives what readers differ on in the dictionary of a signature."""
+    if not is_whole:
+        yield "readers differ on numbers of the ByteRange that are no integers"
+    if not value.is_indirect:
+        yield "readers differ on a signature that is no object of its own"
+    if str(subfilter) not in _SUBFILTERS:
+        yield "readers differ on a signature without a SubFilter that they know"
+
+
 def _signature_of(pikepdf: Any, name: str, value: Any, note: str) -> FormSignature:
     ranges = value.get("/ByteRange")
     numbers = list(ranges) if isinstance(ranges, pikepdf.Array) and len(ranges) <= 100 else []
@@ -194,5 +205,5 @@ def _signature_of(pikepdf: Any, name: str, value: Any, note: str) -> FormSignatu
         contents=bytes(contents) if isinstance(contents, pikepdf.String) else None,
         subfilter=str(subfilter)[1:65] if isinstance(subfilter, pikepdf.Name) else "without SubFilter",
         has_range=ranges is not None,
-        note=note if is_whole else "readers differ on numbers of the ByteRange that are no integers",
+        note="; ".join(filter(None, (note, *_oddities(value, subfilter, is_whole)))),
     )
