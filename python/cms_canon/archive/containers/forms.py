@@ -15,7 +15,8 @@ from typing import Any, Iterator, List, NamedTuple, Optional, Set, Tuple
 
 from .sources import Budget
 
-MOST_FIELDS = 10_000  # of one form that are read
+MOST_FIELDS = 3_000  # of one form that are read: the parser takes a third of a millisecond for each
+MOST_ATTACHED = 1_000  # files
 MEMORY = 64 << 20  # octets that the parser may take
 _PAGE = resource.getpagesize()
 _DAMAGED = "the PDF is damaged, so that readers may differ on its signatures"
@@ -40,8 +41,8 @@ class FormSignature:
     """Why readers may differ on it."""
 
 
-class _TooManyFields(Exception):
-    """A form has more fields than are read."""
+class _TooMany(Exception):
+    """A PDF has more of something than is read."""
 
 
 class Form(NamedTuple):
@@ -104,8 +105,8 @@ def form_of(octets: bytes, budget: Budget) -> Form:
                 signatures.append(it)
             attached = list(_attached_to(pikepdf, pdf.Root, budget))
             why = _DAMAGED if any(_HARMLESS not in str(it) for it in pdf.get_warnings()) else ""
-        except _TooManyFields:
-            why = f"its form has more than {MOST_FIELDS:,} fields, so that not all of its signatures are known"
+        except _TooMany as too_many:
+            why = str(too_many)
         except pikepdf.PasswordError:
             why = "which signatures its form has is not known: that needs a password"
         except (pikepdf.PdfError, AttributeError, KeyError, TypeError, ValueError, RuntimeError, ArithmeticError, MemoryError):
@@ -117,8 +118,7 @@ def _attached_to(pikepdf: Any, root: Any, budget: Budget) -> Iterator[Tuple[str,
     """Gives the files that are named as embedded, or as associated with the document."""
     names = root.get("/Names")
     left = [names.get("/EmbeddedFiles")] if isinstance(names, pikepdf.Dictionary) else []
-    own = root.get("/AF")
-    specifications = list(own) if isinstance(own, pikepdf.Array) else []
+    specifications = _some(pikepdf, root.get("/AF"), 2)
     nodes: Set[Tuple[int, int]] = set()
     while left:
         node = left.pop()
@@ -126,11 +126,20 @@ def _attached_to(pikepdf: Any, root: Any, budget: Budget) -> Iterator[Tuple[str,
         if not isinstance(node, pikepdf.Dictionary) or node.is_indirect and node.objgen in nodes:
             continue
         nodes.add(node.objgen)
-        left += [it for it in node.get("/Kids", ()) if it.is_indirect] if isinstance(node.get("/Kids"), pikepdf.Array) else []
-        specifications += list(node.get("/Names"))[1::2] if isinstance(node.get("/Names"), pikepdf.Array) else []
-        if len(specifications) + len(nodes) > MOST_FIELDS:
-            raise _TooManyFields
+        left += [it for it in _some(pikepdf, node.get("/Kids"), 1) if it.is_indirect]
+        specifications += _some(pikepdf, node.get("/Names"), 2)[1::2]
+        if len(specifications) + len(nodes) + len(left) > MOST_ATTACHED:
+            raise _TooMany(f"it has more than {MOST_ATTACHED:,} files attached, so that not all of them are looked into")
     yield from _streams_of(pikepdf, specifications)
+
+
+def _some(pikepdf: Any, array: Any, most: int) -> List[Any]:
+    """Returns what is in an array; nothing if it is none. Raises `_TooMany` if it has more members than so many for each file."""
+    if not isinstance(array, pikepdf.Array):
+        return []
+    if len(array) > most * MOST_ATTACHED:
+        raise _TooMany(f"it has more than {MOST_ATTACHED:,} files attached, so that not all of them are looked into")
+    return list(array)
 
 
 def _streams_of(pikepdf: Any, specifications: List[Any]) -> Iterator[Tuple[str, Any]]:
@@ -176,7 +185,7 @@ def _values_of(pikepdf: Any, root: Any) -> Iterator[Tuple[str, Any, str]]:
                 continue
             seen.add(it.objgen if it.is_indirect else (-len(seen), 0))
             if len(seen) > MOST_FIELDS:
-                raise _TooManyFields
+                raise _TooMany(f"its form has more than {MOST_FIELDS:,} fields, so that not all of its signatures are known")
             name = ".".join(filter(None, (above, str(it.get("/T", "")))))
             is_known = it.get("/FT") == pikepdf.Name.Sig and (is_top or "/Parent" in it)
             yield name, it.get("/V"), "" if is_known else _ODD_FIELD
