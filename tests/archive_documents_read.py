@@ -397,7 +397,8 @@ def judge_mails(archive, folder: Path, make, random: Random, number: int) -> Non
             wrong.append((path.name, views, other, octets[:600]))
         elif seen_by_openssl(path) not in (b"", SIGNED_PART):
             wrong.append((path.name, "openssl"))
-    count(f"{len(letters):,} mails, of which {len(fitting_ones):,} are said to fit without a note", wrong[:3] or ("" if len(fitting_ones) > len(letters) // 20 else "too few fit"))
+    name = f"{len(letters):,} mails, of which {len(fitting_ones):,} are said to fit without a note"
+    count(name, wrong[:3] or ("" if len(fitting_ones) > len(letters) // 20 else "too few fit"))
 
 
 def judge_copy(home: Path) -> None:

@@ -76,7 +76,8 @@ def judge_questions(home, archive, folder, place):
     count_same("check --all", len(said_of("check --all", "file", status=1)), 8)
     count_same("algorithms --weak", said_of("algorithms --weak", "file"), [("weak.p7s",)])
     count_same("algorithms", said_of("algorithms", "of", "digest", "bits", "signers", "is_weak"), [
-        ("certificate", None, None, 8, False), ("signer", "sha1", 1024, 1, True), ("signer", "sha256", 2048, 7, False), ("time-stamp", "sha256", None, 1, False),
+        ("certificate", None, None, 8, False), ("signer", "sha1", 1024, 1, True), ("signer", "sha256", 2048, 7, False),
+        ("time-stamp", "sha256", None, 1, False),
     ])
     count_same("times", said_of("times", "file", "state", "policy"), [("doc.tst", "fits", "1.2.3.4")])
     signers = dict(said_of("signers", "file", "subject"))

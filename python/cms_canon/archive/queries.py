@@ -135,7 +135,8 @@ def algorithms(store: Store) -> Iterator[Row]:
 
 
 def _counted(store: Store, column: Any, name: str, of: StandsOn) -> Iterator[Row]:
-    asked = sa.select(column.label("algorithm"), sa.func.count().label("count")).where(column.is_not(None)).group_by(column).order_by(sa.func.count().desc(), column)
+    counts = sa.select(column.label("algorithm"), sa.func.count().label("count")).where(column.is_not(None)).group_by(column)
+    asked = counts.order_by(sa.func.count().desc(), column)
     for row in store.asked(asked):
         is_weak_one = str(row["algorithm"]).rpartition("-")[2] in WEAK_DIGESTS
         yield {**dict.fromkeys(_ALGORITHMS), name: row["algorithm"], "signers": row["count"], "is_weak": is_weak_one, "of": of.value}

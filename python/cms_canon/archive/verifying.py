@@ -14,7 +14,7 @@ from typing import Any, Dict, Iterable, Iterator, List, NamedTuple, Optional, Se
 import sqlalchemy as sa
 
 from .containers.packed import why_of
-from .folders import NOT_THERE, Listing, is_gone, listed, named_by, path_named_by, path_of, texts_of_folder
+from .folders import NOT_THERE, Listing, is_gone, listed, path_named_by, path_of, texts_of_folder
 from .queries import name_of
 from .reading import NO_PATH, TOO_LONG, Entry, Row, is_cut, name_of_text, rows_of_entry
 from .sessions import Held

@@ -124,7 +124,8 @@ def workers_of(connection: sa.engine.Connection, is_all: bool = False) -> Iterat
 def _plain(it: WorkerState) -> WorkerState:
     """Returns the same without what no worker that works would say: times before 1970 or to come, and a note that is long."""
     latest = int(time.time()) + DAY
-    times = {name: value if value is not None and 0 <= value <= latest else None for name, value in (("began", it.began), ("seen", it.seen), ("since", it.since))}
+    said = {"began": it.began, "seen": it.seen, "since": it.since}
+    times = {name: value if value is not None and 0 <= value <= latest else None for name, value in said.items()}
     is_long = it.note is not None and len(it.note) > MOST_OF_A_NOTE
     return it._replace(note=f"{str(it.note)[:MOST_OF_A_NOTE]}.." if is_long else it.note, **times)
 
