@@ -460,7 +460,7 @@ def _judged_message(found: Found, octets: bytes, verifies: bool) -> Facts:
     own = [_time("", message, state)] if is_token and signers else []
     times = own + _some(time for number, it in signers if it.unsigned_attributes for time in _attribute_times(number, it))
     of_times = next((f"token {it.number}: {it.state.value}" for it in times if it.number and it.state is State.DIFFERS), "")
-    of_content = found.content.note if found.content and found.content.note else found.note
+    of_content = found.content.note if found.content else ""
     more = f" and {len(findings) - MOST_LISTED:,} more" if len(findings) > MOST_LISTED else ""
     return Facts(
         what=Class.MESSAGE,
@@ -470,7 +470,7 @@ def _judged_message(found: Found, octets: bytes, verifies: bool) -> Facts:
         content_type=None if message.content_type is None else _oid_name(message.content_type),
         content=_where(found, message, is_token),
         state=state,
-        note="; ".join(filter(None, (of_content, of_countersigners, of_times))),
+        note="; ".join(filter(None, dict.fromkeys((of_content, found.note, of_countersigners, of_times)))),
         findings="; ".join(map(str, findings[:MOST_LISTED])) + more,
         digests=_names([it.digest_algorithm.oid for _, it in signers]),
         signatures=_names([it.signature_algorithm.oid for _, it in signers]),

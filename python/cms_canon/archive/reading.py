@@ -29,7 +29,7 @@ from .judging import Facts, Signer, Time, judged
 Value = Union[str, int, bool, None]
 Row = Dict[str, Any]
 
-READER = 3  # raised with each change by which a file would get other rows
+READER = 4  # raised with each change by which a file would get other rows
 MOST = (1 << 63) - 1  # the largest number that a store takes
 LONGEST = 1200  # octets of a name in a store: an index of PostgreSQL takes 2,704, a path and the name of a member together
 SETTLED = 2_000_000_000  # nanoseconds: the clock of a file system may be as coarse

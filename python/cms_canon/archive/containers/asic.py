@@ -70,7 +70,7 @@ class _Reader:
         if name == "SigReference":
             self.signature = plain(unquote(attributes.get("URI", "")))
         elif name == "DataObjectReference":
-            self._name, self._digests = unquote(attributes.get("URI", "")), []
+            self._name, self._digests = plain(unquote(attributes.get("URI", ""))), []
         elif name == "DigestMethod":
             self._algorithm = algorithm_of(attributes.get("Algorithm", ""))
         elif name == "DigestValue":

@@ -110,6 +110,10 @@ class Found(NamedTuple):
         name = name.replace("!", r"\x21")
         return self._replace(where=f"{name}!{self.where}" if self.where else name)
 
+    def noted(self, note: str) -> Found:
+        """Returns the same with one more note."""
+        return self._replace(note="; ".join(filter(None, (self.note, note))))
+
     def with_content(self, content: Optional[Content]) -> Found:
         """Returns the same with the content that it covers, of which it needs none any more."""
         return self._replace(content=content, is_detached=content is not None, wants=None)

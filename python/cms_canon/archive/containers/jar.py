@@ -7,10 +7,10 @@ import hashlib
 import re
 from base64 import b64decode
 from functools import cached_property
-from typing import AbstractSet, Dict, FrozenSet, Iterable, Iterator, List, NamedTuple, Optional, Tuple
+from typing import AbstractSet, Dict, FrozenSet, Iterable, Iterator, List, NamedTuple, Optional, Set, Tuple
 
 from .found import Class, Content, Found, Pieces, State
-from .manifests import Compared, Digest, Listed, algorithm_of, at_best, compared, plain, weak_alone
+from .manifests import Compared, Digest, Listed, algorithm_of, at_best, compared, weak_alone
 
 FORM = "JAR"
 _BLOCK = re.compile(r"META-INF/([^/]+)\.(?:RSA|DSA|EC)\Z", re.I)
@@ -20,6 +20,7 @@ _FOLD = re.compile(rb"(?:\r\n|\n|\r(?!\n)) ")
 _LINE = re.compile(rb"\r\n|\n|\r")
 _DIGEST = re.compile(r"(?:(?P<algorithm>[A-Za-z0-9/-]+?)-Digest)(?P<what>-Manifest(?:-Main-Attributes)?)?\Z", re.I)
 _WHOLE, _MAIN = "-manifest", "-manifest-main-attributes"
+_APK_SCHEMES = "x-android-apk-signed"
 _Digests = Tuple[Tuple[Optional[str], bytes], ...]
 
 
@@ -76,8 +77,15 @@ def stem_of(name: str) -> Optional[str]:
 
 
 def due_of(names: Iterable[str]) -> FrozenSet[str]:
-    """Returns the plain names of what a manifest has to list."""
-    return frozenset(plain(it) for it in names if not _OF_A_SIGNATURE.match(it))
+    """Returns the names of what a manifest has to list."""
+    return frozenset(it for it in names if not _OF_A_SIGNATURE.match(it))
+
+
+def schemes_of(signature_file: bytes) -> Set[int]:
+    """Returns the later schemes of APK of which a signature file says that the APK is signed by them too."""
+    main = next(_sections_of(signature_file), None)
+    values = [value for key, value in main.attributes if key.lower() == _APK_SCHEMES] if main else []
+    return {int(it) for value in values for it in value.split(",") if it.strip().isdecimal() and len(it) < 9} - {1}
 
 
 class Manifest:

@@ -1,0 +1,579 @@
+#!/usr/bin/env python3
+"""Compares what `cms_canon.archive` says of containers that are out of the ordinary with what other programs show of them.
+
+    /usr/bin/python3 tests/archive_readers.py [CONTAINERS [SEED]]
+
+A generator makes so many containers of each kind (1,500 if no number is named), most of them with something odd: a member twice, hidden,
+linked, cut, renamed, or with octets changed at random. If it is said of a message that it fits, and no note says that readers differ, then no
+reader may show other octets under a name that the message covers. The readers are unzip, bsdtar (of a file and of a pipe), GNU tar, Java's JarFile
+and ZipInputStream, jarsigner, and Python's zipfile and tarfile; what is missing is skipped by its name. There are also containers that were
+each made by hand for one such trick: each has to be noted.
+
+Another kind of container is one more `Kind`: its generator, and the readers of it.
+"""
+
+import base64
+import hashlib
+import io
+import itertools
+import os
+import re
+import shutil
+import stat
+import struct
+import subprocess
+import sys
+import tarfile
+import time
+import unicodedata
+import zipfile
+import zlib
+from collections import Counter
+from dataclasses import dataclass, field, replace
+from pathlib import Path
+from random import Random
+from typing import Callable, Dict, FrozenSet, Iterable, Iterator, List, NamedTuple, Optional, Set, Tuple
+
+from archive import SECONDS, TOP, count, count_if, count_same, judged_in_a_copy, modules_of, tally, write_files
+from archive_containers import DOCUMENT, FITS, Maker, made_jar, manifest, said_of, section, unzipped
+
+CONTAINERS = 1500  # of each kind
+SEED = 7310
+OTHER = b"Not the document that was signed."
+JAVA = TOP / "tests" / "data" / "ArchiveReaders.java"
+
+Shown = Dict[str, Set[bytes]]
+"""The digests of what a reader shows under each name."""
+Read = Callable[[Path, List[Path]], Dict[str, Shown]]
+"""Reads containers, with a folder for what it writes: what each shows, by the name of its file."""
+
+
+class Container(NamedTuple):
+    """A container as it was made: its octets, what was done to it, and what each message in it covers, by its place."""
+
+    octets: bytes
+    how: str
+    covers: Dict[str, Dict[str, bytes]]
+    covers_all: bool = False
+    """Whether a message has to cover each file that a reader shows, if it fits."""
+
+
+class Kind(NamedTuple):
+    """A kind of container: the end of the names of its files, what makes one at random, and what reads it."""
+
+    ending: str
+    make: Callable[[Random], Container]
+    readers: Dict[str, Read]
+
+
+def digest(octets: bytes) -> bytes:
+    return hashlib.sha256(octets).digest()
+
+
+# ---- readers
+
+
+def by_command(*words: str, is_piped: bool = False) -> Read:
+    """Returns a reader that unpacks a file into the folder in which it is called: `FILE` among its words is the file."""
+
+    def read(folder: Path, paths: List[Path]) -> Dict[str, Shown]:
+        return {path.name: _unpacked(folder / path.name, [path if it == "FILE" else it for it in words], path if is_piped else None) for path in paths}
+
+    return read
+
+
+def _unpacked(folder: Path, words: list, piped: Optional[Path]) -> Shown:
+    folder.mkdir(parents=True)
+    octets = piped.read_bytes() if piped else b""
+    subprocess.run([*map(str, words)], cwd=folder, input=octets, capture_output=True, timeout=SECONDS)
+    shown = {}
+    for path in folder.rglob("*"):
+        inside = os.path.realpath(path)
+        if path.is_file() and inside.startswith(os.path.realpath(folder) + "/"):
+            shown.setdefault(str(path.relative_to(folder)), set()).add(digest(path.read_bytes()))
+    subprocess.run(["chmod", "-R", "u+rwx", str(folder)], capture_output=True, timeout=SECONDS)
+    shutil.rmtree(folder)
+    return shown
+
+
+def by_zipfile(folder: Path, paths: List[Path]) -> Dict[str, Shown]:
+    return {path.name: _shown_by_zipfile(path) for path in paths}
+
+
+def _shown_by_zipfile(path: Path) -> Shown:
+    shown: Shown = {}
+    try:
+        with zipfile.ZipFile(path) as file:
+            for info in (it for it in file.infolist() if not it.is_dir()):
+                try:
+                    shown.setdefault(info.filename, set()).add(digest(file.read(info)))
+                except Exception:  # of a member that it does not show
+                    pass
+    except Exception:
+        pass
+    return shown
+
+
+def by_tarfile(folder: Path, paths: List[Path]) -> Dict[str, Shown]:
+    return {path.name: _shown_by_tarfile(folder / path.name, path) for path in paths}
+
+
+def _shown_by_tarfile(folder: Path, path: Path) -> Shown:
+    shown: Shown = {}
+    try:
+        with tarfile.open(path, "r:") as file:
+            for name in set(file.getnames()):
+                try:
+                    if (octets := file.extractfile(name)) is not None:
+                        shown[os.path.normpath(name)] = {digest(octets.read())}
+                except Exception:
+                    pass
+    except Exception:
+        pass
+    return shown
+
+
+def by_java(readers: str) -> Read:
+    """Returns a reader of the program in Java, which is begun once for all files."""
+
+    def read(folder: Path, paths: List[Path]) -> Dict[str, Shown]:
+        names = "".join(f"{it}\n" for it in paths).encode()
+        ran = subprocess.run(["java", JAVA, readers], input=names, capture_output=True, timeout=SECONDS)
+        if ran.returncode:
+            raise SystemExit(f"java: {ran.stderr.decode()[-800:]}")
+        shown: Dict[str, Shown] = {it.name: {} for it in paths}
+        for parts in (line.split("\t") for line in ran.stdout.decode().splitlines()):
+            if len(parts) == 3:
+                name = bytes.fromhex(parts[1]).decode("utf-8", "replace")
+                shown[Path(parts[0]).name].setdefault(name, set()).add(bytes.fromhex(parts[2]))
+        return shown
+
+    return read
+
+
+# ---- zips, written header by header
+
+
+@dataclass
+class Member:
+    """A member of a zip. What its two headers say can differ, and it can lack one of them."""
+
+    name: bytes
+    octets: bytes
+    method: int = zipfile.ZIP_DEFLATED
+    flags: int = 0x800
+    local: dict = field(default_factory=dict)
+    """What the header before the member says otherwise: `name`, `crc`, `packed`, `unpacked`, `method`, `extra`."""
+    listed: dict = field(default_factory=dict)
+    """What the list of members says otherwise; also `at`, `mode` and `system`."""
+    is_listed: bool = True
+    is_there: bool = True
+    packed: Optional[bytes] = None
+    after: bytes = b""
+    """What follows it."""
+
+    def numbers(self, other: dict) -> dict:
+        packed = self.packed_octets()
+        return {"name": self.name, "crc": zlib.crc32(self.octets), "packed": len(packed), "unpacked": len(self.octets), "method": self.method,
+                "extra": b"", "flags": self.flags, **other}
+
+    def packed_octets(self) -> bytes:
+        if self.packed is None:
+            deflater = zlib.compressobj(9, zlib.DEFLATED, -15)
+            self.packed = self.octets if self.method == zipfile.ZIP_STORED else deflater.compress(self.octets) + deflater.flush()
+        return self.packed
+
+    def written(self) -> bytes:
+        it = self.numbers({**({"crc": 0, "packed": 0, "unpacked": 0} if self.flags & 8 else {}), **self.local})
+        header = struct.pack("<4s5H3L2H", b"PK\3\4", 20, it["flags"], it["method"], 0, 33, it["crc"], it["packed"], it["unpacked"], len(it["name"]),
+                             len(it["extra"]))
+        end = self.numbers({})
+        descriptor = struct.pack("<4s3L", b"PK\7\x08", end["crc"], end["packed"], end["unpacked"]) if self.flags & 8 else b""
+        return header + it["name"] + it["extra"] + self.packed_octets() + descriptor + self.after
+
+    def entry(self, at: int) -> bytes:
+        it = self.numbers({"at": at, "mode": 0o100644 << 16, "system": 3, **self.listed})
+        return struct.pack("<4sBB5H3L5H2L", b"PK\1\2", 20, it["system"], 20, it["flags"], it["method"], 0, 33, it["crc"], it["packed"], it["unpacked"],
+                           len(it["name"]), len(it["extra"]), 0, 0, 0, it["mode"], it["at"]) + it["name"] + it["extra"]
+
+
+@dataclass
+class Zip:
+    """A zip: its members, what lies before and after them, and what its end says otherwise."""
+
+    members: List[Member]
+    before: bytes = b""
+    gap: bytes = b""
+    """Between the last member and the list."""
+    after: bytes = b""
+    comment: bytes = b""
+    end: dict = field(default_factory=dict)
+    is_shifted: bool = True
+    """Whether offsets count from the beginning of the file, and not from the first member."""
+    other_list: Optional[List[Member]] = None
+    """Members of a second list, which a ZIP64 locator leads to, or the end record if `is_other_first`."""
+    is_other_in_64: bool = True
+
+    def written(self) -> bytes:
+        octets, places = bytearray(self.before), {}
+        every = self.members + [it for it in self.other_list or [] if it not in self.members]
+        for it in every:
+            if it.is_there:
+                places[id(it)] = len(octets) - (0 if self.is_shifted else len(self.before))
+                octets += it.written()
+        octets += self.gap
+        lists = [self._list(some, places) for some in (self.members, self.other_list) if some is not None]
+        begins = []
+        for it, _ in lists:
+            begins.append(len(octets) - (0 if self.is_shifted else len(self.before)))
+            octets += it
+        return bytes(octets) + self._end(lists, begins, len(octets)) + self.comment + self.after
+
+    def _list(self, some: List[Member], places: Dict[int, int]) -> Tuple[bytes, int]:
+        entries = [it.entry(places.get(id(it), 0)) for it in some if it.is_listed]
+        return b"".join(entries), len(entries)
+
+    def _end(self, lists: list, begins: List[int], at: int) -> bytes:
+        first, last = 0, len(lists) - 1
+        octets_64 = b""
+        if len(lists) > 1 and self.is_other_in_64:
+            listed, number = lists[last]
+            octets_64 = struct.pack("<4sQ2H2L4Q", b"PK\6\6", 44, 45, 45, 0, 0, number, number, len(listed), begins[last])
+            octets_64 += struct.pack("<4sLQL", b"PK\6\7", 0, at, 1)
+        listed, number = lists[first]
+        it = {"number": number, "octets": len(listed), "begin": begins[first], **self.end}
+        return octets_64 + struct.pack("<4s4H2LH", b"PK\5\6", 0, 0, it["number"], it["number"], it["octets"], it["begin"], len(self.comment))
+
+
+def fresh(members: List[Member]) -> List[Member]:
+    return [replace(it, local=dict(it.local), listed=dict(it.listed)) for it in members]
+
+
+def hidden_in(member: Member, name: bytes) -> None:
+    """Gives a member packed octets after whose end another member of this name follows, of which the list says nothing."""
+    deflater = zlib.compressobj(9, zlib.DEFLATED, -15)
+    packed = deflater.compress(member.octets) + deflater.flush()
+    member.method, member.flags = zipfile.ZIP_DEFLATED, member.flags | 8
+    real = struct.pack("<4s3L", b"PK\7\x08", zlib.crc32(member.octets), len(packed), len(member.octets))
+    member.packed = packed + real + Member(name, OTHER, is_listed=False).written()
+
+
+# What is done to a zip: each trick takes it, the name of the member to be changed, and a generator of random numbers.
+
+def _twice(it: Zip, name: bytes, random: Random) -> None:
+    it.members.insert(random.randrange(len(it.members) + 1), Member(name, OTHER))
+
+
+def _hidden(it: Zip, name: bytes, random: Random) -> None:
+    it.members.insert(random.randrange(len(it.members) + 1), Member(name, OTHER, is_listed=False))
+
+
+def _hidden_within(it: Zip, name: bytes, random: Random) -> None:
+    hidden_in(random.choice(it.members), name)
+
+
+def _other_header(it: Zip, name: bytes, random: Random) -> None:
+    member = next(one for one in it.members if one.name == name)
+    choices = {"name": b"other", "crc": 1, "packed": 1, "unpacked": 1, "method": 0, "extra": b"\1\0\x10\0" + bytes(16)}
+    for key in random.sample(sorted(choices), random.randrange(1, 3)):
+        random.choice((member.local, member.listed))[key] = choices[key]
+
+
+def _swapped(it: Zip, name: bytes, random: Random) -> None:
+    """The headers before two members have the name of the other."""
+    member, other = next(one for one in it.members if one.name == name), Member(b"swapped", OTHER)
+    member.local["name"], other.local["name"] = other.name, name
+    it.members.append(other)
+
+
+def _other_spelling(it: Zip, name: bytes, random: Random) -> None:
+    text = name.decode()
+    spellings = (f"./{text}", f"x/../{text}", f"/{text}", f"{text}/", text.upper(), f"../{text}", text.replace("/", "\\"), f"{text}\0x", f"//{text}",
+                 f"{text}/more", unicodedata.normalize("NFD", text))
+    spelt = random.choice(spellings).encode()
+    if random.random() < 0.3:
+        next(one for one in it.members if one.name == name).name = spelt
+    else:
+        it.members.insert(random.randrange(len(it.members) + 1), Member(spelt, OTHER))
+
+
+def _other_characters(it: Zip, name: bytes, random: Random) -> None:
+    """A member has the name in an extra field, or in characters that some take for others."""
+    extra = struct.pack("<HHBL", 0x7075, 5 + len(name), 1, zlib.crc32(b"other")) + name
+    both = {"extra": extra}
+    it.members.insert(random.randrange(len(it.members) + 1), Member(b"other", OTHER, flags=0, local=both, listed=random.choice((both, {}))))
+
+
+def _two_lists(it: Zip, name: bytes, random: Random) -> None:
+    it.other_list = [one for one in it.members if one.name != name] + [Member(name, OTHER)]
+    if random.random() < 0.5:
+        it.members, it.other_list = it.other_list, it.members
+    it.is_other_in_64 = random.random() < 0.7
+    if not it.is_other_in_64:
+        it.end["octets"] = 0
+
+
+def _other_end(it: Zip, name: bytes, random: Random) -> None:
+    it.end[random.choice(("number", "octets", "begin"))] = random.choice((0, 1, 46, 100))
+
+
+def _around(it: Zip, name: bytes, random: Random) -> None:
+    other = Zip([Member(name, OTHER)]).written()
+    octets = random.choice((b"x" * random.randrange(1, 50), other, Member(name, OTHER).written()))
+    setattr(it, random.choice(("before", "gap", "after", "comment")), octets)
+    it.is_shifted = random.random() < 0.5
+
+
+def _linked(it: Zip, name: bytes, random: Random) -> None:
+    member = next(one for one in it.members if one.name == name)
+    if random.random() < 0.5:
+        member.listed["mode"] = (stat.S_IFLNK | 0o777) << 16
+    else:
+        it.members.insert(0, Member(name, b"other", listed={"mode": (stat.S_IFLNK | 0o777) << 16}))
+    it.members.append(Member(b"other", OTHER))
+
+
+def _described(it: Zip, name: bytes, random: Random) -> None:
+    """Members have descriptors, also such as are stored."""
+    for one in it.members:
+        one.flags |= 8
+        one.method = random.choice((0, 8, 8))
+
+
+def _stored(it: Zip, name: bytes, random: Random) -> None:
+    """A stored member has other octets than its sizes say."""
+    member = next(one for one in it.members if one.name == name)
+    member.method, member.packed = zipfile.ZIP_STORED, member.octets + OTHER
+
+
+def _longer(it: Zip, name: bytes, random: Random) -> None:
+    """A member goes on after the octets that both headers speak of."""
+    deflater, member = zlib.compressobj(9, zlib.DEFLATED, -15), next(one for one in it.members if one.name == name)
+    member.method, member.packed = zipfile.ZIP_DEFLATED, deflater.compress(member.octets + OTHER) + deflater.flush()
+
+
+def _same_header(it: Zip, name: bytes, random: Random) -> None:
+    """Two entries of the list are for one member."""
+    it.members.append(Member(b"shared", DOCUMENT, is_there=False))
+
+
+TRICKS = (_twice, _hidden, _hidden_within, _other_header, _swapped, _other_spelling, _other_characters, _two_lists, _other_end, _around, _linked,
+          _described, _stored, _longer, _same_header)
+
+
+def spoilt(octets: bytes, random: Random) -> bytes:
+    """Returns a zip of which a few octets of its headers are changed."""
+    changed = bytearray(octets)
+    headers = [it.start() for it in re.finditer(rb"PK[\1\3\5\6][\2\4\6\7]", octets)] or [0]
+    for _ in range(random.randrange(1, 4)):
+        place = random.choice(headers) + random.randrange(4, 60)
+        if place < len(changed):
+            changed[place] = random.choice((0, 1, 8, 0xFF, changed[place] ^ 1 << random.randrange(8)))
+    return bytes(changed)
+
+
+def made_zip(files: Dict[str, bytes], names: List[str], random: Random) -> Tuple[bytes, str]:
+    """Returns a zip of these files to which something was done, and what."""
+    members = [Member(name.encode(), octets, method=random.choice((0, 8))) for name, octets in files.items()]
+    whole, how = Zip(members), []
+    for trick in random.sample(TRICKS, random.choice((0, 1, 1, 1, 2))):
+        try:
+            trick(whole, random.choice(names).encode(), random)
+        except StopIteration:  # the member has another name by now
+            continue
+        how.append(trick.__name__.strip("_"))
+    octets = whole.written()
+    if random.random() < 0.2:
+        octets, how = spoilt(octets, random), [*how, "spoilt"]
+    return octets, ", ".join(how)
+
+
+def zips_of(files: Dict[str, bytes], covers: Dict[str, Iterable[str]], covers_all: bool) -> Callable[[Random], Container]:
+    """Returns what makes zips of these files, whose messages cover files by these names."""
+    covered = {place: {name: files[name] for name in names} for place, names in covers.items()}
+    names = sorted({name for some in covered.values() for name in some})
+
+    def make(random: Random) -> Container:
+        return Container(*made_zip(files, names, random), covered, covers_all)
+
+    return make
+
+
+def zip_kinds(make: Maker) -> Dict[str, Callable[[Random], Container]]:
+    """Returns what makes zips of each kind: with a message beside its content, one with its content, ASiC and JAR."""
+    der, attached = make.cms(DOCUMENT), make.cms(DOCUMENT, "-nodetach")
+    beside = {"doc": DOCUMENT, "doc.p7s": der, "text.txt": b"text"}
+    listed = manifest("META-INF/signature001.p7s", "application/x-pkcs7-signature", {"doc": DOCUMENT, "folder/b": b"b"})
+    in_e = {"mimetype": b"application/vnd.etsi.asic-e+zip", "doc": DOCUMENT, "folder/b": b"b", "META-INF/ASiCManifest001.xml": listed}
+    in_e["META-INF/signature001.p7s"] = make.cms(listed)
+    jar = unzipped(made_jar(make, {"a/B.class": b"class", "doc": DOCUMENT}))
+    return {
+        "zip": zips_of(beside, {"doc.p7s": ["doc", "doc.p7s"]}, False),
+        "attached.zip": zips_of({"a.p7m": attached, "text.txt": b"text"}, {"a.p7m": ["a.p7m"]}, False),
+        "asics": zips_of({"doc": DOCUMENT, "META-INF/signature.p7s": der}, {"META-INF/signature.p7s": ["doc", "META-INF/signature.p7s"]}, True),
+        "asice": zips_of(in_e, {"META-INF/signature001.p7s": [it for it in in_e if it != "mimetype"]}, True),
+        "jar": zips_of(jar, {"META-INF/A.RSA": [*jar]}, True),
+    }
+
+
+def zip_readers() -> Dict[str, Read]:
+    readers: Dict[str, Read] = {"zipfile": by_zipfile}
+    if tally.has("unzip"):
+        readers["unzip"] = by_command("unzip", "-o", "-qq", "FILE")
+    if tally.has("bsdtar"):
+        readers["bsdtar"] = by_command("bsdtar", "-xf", "FILE")
+        readers["bsdtar of a pipe"] = by_command("bsdtar", "-xf", "-", is_piped=True)
+    if tally.has("java"):
+        readers["JarFile"], readers["ZipInputStream"] = by_java("JarFile"), by_java("ZipInputStream")
+    return readers
+
+
+# ---- made by hand
+
+
+class Trick(NamedTuple):
+    """A container that was made by hand: what is said of a message in it, and words of the note. No words stand for no note."""
+
+    octets: bytes
+    place: str
+    state: str
+    words: str = ""
+
+
+def with_manifest(make: Maker, files: Dict[str, bytes], more: str = "") -> Dict[str, bytes]:
+    """Returns the members of a JAR whose signature file says more."""
+    listed = b"Manifest-Version: 1.0\r\n\r\n" + b"".join(section(name, octets) for name, octets in files.items())
+    signature = f"Signature-Version: 1.0\r\nSHA-256-Digest-Manifest: {base64.b64encode(digest(listed)).decode()}\r\n{more}\r\n".encode()
+    return {"META-INF/MANIFEST.MF": listed, "META-INF/A.SF": signature, "META-INF/A.RSA": make.cms(signature), **files}
+
+
+def apk_block(*schemes: int) -> bytes:
+    """Returns an APK signing block with parts of these numbers."""
+    parts = b"".join(struct.pack("<QL", 8, it) + b"part" for it in schemes)
+    size = struct.pack("<Q", len(parts) + 24)
+    return size + parts + size + b"APK Sig Block 42"
+
+
+def zip_tricks(make: Maker) -> Dict[str, Trick]:
+    """Returns zips in which readers find other octets, and some in which all find the same."""
+    der, block = make.cms(DOCUMENT), "META-INF/A.RSA"
+    plain, doc, other = [Member(b"doc", DOCUMENT), Member(b"doc.p7s", der)], Member(b"doc", DOCUMENT), Member(b"doc", OTHER)
+    signature = Member(b"doc.p7s", der)
+    within, longer = Member(b"doc", DOCUMENT), Member(b"doc", DOCUMENT)
+    hidden_in(within, b"doc")
+    _longer(Zip([longer]), b"doc", Random(0))
+    members = [Member(name.encode(), octets) for name, octets in with_manifest(make, {"doc": DOCUMENT, "A.class": b"class"}).items()]
+    renamed = [replace(it, name=b"./A.class") if it.name == b"A.class" else it for it in members]
+    of_android = {"AndroidManifest.xml": b"m", "classes.dex": DOCUMENT}
+    said = [Member(name.encode(), it) for name, it in with_manifest(make, of_android, "X-Android-APK-Signed: 2, 3\r\n").items()]
+    link = Member(b"doc", DOCUMENT, listed={"mode": (stat.S_IFLNK | 0o777) << 16})
+    differ, unclear = "readers differ on ", "files of the manifest not compared"
+    beside = {
+        "plain.zip": Trick(Zip(plain).written(), "doc.p7s", FITS),
+        "described.zip": Trick(Zip([Member(b"doc", DOCUMENT, flags=0x808), signature]).written(), "doc.p7s", FITS),
+        "64.zip": Trick(in_64({"doc": DOCUMENT, "doc.p7s": der}), "doc.p7s", FITS),
+        "two lists.zip": Trick(Zip([other, signature], other_list=[doc, signature]).written(), "doc.p7s", unclear, differ),
+        "hidden.zip": Trick(Zip([replace(other, is_listed=False), *plain]).written(), "doc.p7s", unclear, differ),
+        "hidden within.zip": Trick(Zip([within, signature]).written(), "doc.p7s", unclear, differ),
+        "hidden last.zip": Trick(Zip(plain, gap=other.written()).written(), "doc.p7s", unclear, differ),
+        "longer.zip": Trick(Zip([longer, signature]).written(), "doc.p7s", "damaged", "CRC"),
+        "other name.zip": Trick(Zip([replace(other, local={"extra": unicode_path(b"doc")}), *plain]).written(), "doc.p7s", unclear, differ),
+        "folder.zip": Trick(Zip([*plain, Member(b"doc/", OTHER)]).written(), "doc.p7s", unclear, differ),
+        "steps.zip": Trick(Zip([*plain, Member(b"x/../doc", OTHER)]).written(), "doc.p7s", unclear, differ),
+        "capitals.zip": Trick(Zip([*plain, Member(b"DOC", OTHER)]).written(), "doc.p7s", FITS, "on some file systems"),
+        "link.zip": Trick(Zip([link, signature]).written(), "doc.p7s", unclear, "symbolic link"),
+        "attached.zip": Trick(Zip([Member(b"a.p7m", make.cms(DOCUMENT, "-nodetach")), Member(b"a.p7m", OTHER, is_listed=False)]).written(), "a.p7m",
+                              FITS, differ),
+        "some.jar": Trick(Zip(members).written(), block, FITS),
+        "other path.jar": Trick(Zip(renamed).written(), block, "does not fit", "A.class"),
+        "hidden.jar": Trick(Zip([Member(b"A.class", OTHER, is_listed=False), *members]).written(), block, unclear, differ),
+        "capitals.jar": Trick(Zip([*members, Member(b"a.class", OTHER)]).written(), block, "fits, but covers only some files", "on some file systems"),
+        "signed.apk": Trick(Zip(said, gap=apk_block(0x7109871A, 0xF05368C0)).written(), block, FITS, "an APK signing block of 64 octets"),
+        "stripped.apk": Trick(Zip(said).written(), block, unclear, "signature of scheme 2 and 3, and there is none"),
+        "half stripped.apk": Trick(Zip(said, gap=apk_block(0x7109871A)).written(), block, unclear, "signature of scheme 3, and there is none"),
+    }
+    return beside
+
+
+def unicode_path(name: bytes) -> bytes:
+    return struct.pack("<HHBL", 0x7075, 5 + len(name), 1, zlib.crc32(b"doc")) + name
+
+
+def in_64(files: Dict[str, bytes]) -> bytes:
+    """Returns a zip as Python writes it to a pipe, with numbers of 64 bits."""
+    whole = io.BytesIO()
+    with zipfile.ZipFile(whole, "w", zipfile.ZIP_DEFLATED) as packed:
+        for name, octets in files.items():
+            with packed.open(zipfile.ZipInfo(name), "w", force_zip64=True) as member:
+                member.write(octets)
+    return whole.getvalue()
+
+
+def judge_tricks(archive, folder: Path, tricks: Dict[str, Trick]) -> None:
+    """Each container in which readers differ has a note that says so, and none in which they do not."""
+    write_files(folder, {name: it.octets for name, it in tricks.items()})
+    for name, it in tricks.items():
+        came, facts = said_of(archive, folder / name)
+        note = facts[it.place].note if it.place in facts else None
+        is_so = came.get(it.place) == it.state and note is not None and (it.words in note if it.words else not note)
+        count_if(f"made by hand: {name}", is_so, came, note, "wanted", it.state, it.words)
+
+
+# ---- what is compared
+
+
+def said_to_fit(archive, path: Path) -> Set[str]:
+    """Returns the places of messages that are said to fit without a note."""
+    _, facts = said_of(archive, path)
+    return {where for where, it in facts.items() if it.state is not None and it.state.value == FITS and not it.note}
+
+
+def differing(container: Container, places: Set[str], shown: Shown) -> List[str]:
+    """Returns the names under which a reader shows something else than is said to fit."""
+    wrong = []
+    for place in places & container.covers.keys():
+        covered = container.covers[place]
+        wrong += [f"{place}: {name}" for name, octets in covered.items() if not shown.get(name, set()) <= {digest(octets)}]
+        if container.covers_all:
+            known = {*map(digest, covered.values())}  # under another name: ASiC-S names no file
+            wrong += [f"{place}: {name} too" for name, some in shown.items() if name != "mimetype" and not some <= known]
+    return wrong
+
+
+def judge_kind(archive, folder: Path, name: str, kind: Kind, random: Random, number: int) -> None:
+    """No reader shows other octets than those that are said to fit."""
+    begin, containers, fitting = time.monotonic(), {}, {}
+    folder.mkdir(parents=True)
+    for it in range(number):
+        containers[f"{it}.{kind.ending}"] = kind.make(random)
+    for file, container in containers.items():
+        (folder / file).write_bytes(container.octets)
+        fitting[file] = said_to_fit(archive, folder / file)
+    paths = [folder / file for file, places in fitting.items() if places]
+    wrong = []
+    for reader, read in kind.readers.items():
+        for file, shown in read(folder / "unpacked", paths).items():
+            if names := differing(containers[file], fitting[file], shown):
+                wrong.append(f"{reader} of {file} ({containers[file].how}): {names[:3]}")
+    count(f"{number:,} of {name}", wrong[:5])
+    count_if(f"{name} that fits, and that is noted", 0 < len(paths) < number, len(paths))
+    if "-v" in sys.argv:
+        hows = Counter(containers[it.name].how for it in paths)
+        print(f"{name}: {len(paths)} of {number} fit, {len(wrong)} wrong, {time.monotonic() - begin:.1f} s; {hows.most_common(12)}")
+        print(*wrong[:12], sep="\n")
+
+
+def judge_copy(home: Path) -> None:
+    inner = (f"containers.{it}" for it in ("files", "found", "sources"))
+    archive, make = modules_of(home, "judging", *inner), Maker(home / "made")
+    given = [int(it) for it in sys.argv[1:3] if it.isdigit()]
+    number, seed = [*given, *[CONTAINERS, SEED][len(given) :]]
+    random, of_zips = Random(seed), zip_readers()
+    judge_tricks(archive, home / "by hand", zip_tricks(make))
+    makers = zip_kinds(make)
+    for name, it in makers.items():
+        judge_kind(archive, home / f"random {name}", name, Kind(name.rpartition(".")[2], it, of_zips), random, number // len(makers))
+
+
+if __name__ == "__main__":
+    sys.exit(judged_in_a_copy(("cryptography",), judge_copy) if tally.has("openssl") else tally.end(may_skip_all=True))
