@@ -428,6 +428,190 @@ def zip_readers() -> Dict[str, Read]:
     return readers
 
 
+# ---- tars, written header by header
+
+
+@dataclass
+class Entry:
+    """A member of a tar. The header is written as it is said, also if it is wrong."""
+
+    name: bytes
+    octets: bytes = b""
+    kind: bytes = b"0"
+    link: bytes = b""
+    size: Optional[bytes] = None
+    magic: bytes = b"ustar\x0000"
+    prefix: bytes = b""
+    changes: Tuple[Tuple[int, int], ...] = ()
+    """Places in the header, and what they get before the check sum is made."""
+
+    def written(self) -> bytes:
+        size = b"%011o\0" % len(self.octets) if self.size is None else self.size
+        head = self.name[:100].ljust(100, b"\0") + b"0000644\0" + b"0000000\0" * 2 + size.ljust(12, b"\0")[:12] + b"00000000001\0" + b" " * 8
+        header = bytearray((head + self.kind + self.link[:100].ljust(100, b"\0") + self.magic).ljust(345, b"\0") + self.prefix).ljust(512, b"\0")
+        for place, octet in self.changes:
+            header[place] = octet
+        header[148:156] = b" " * 8
+        header[148:156] = b"%06o\0 " % sum(header)
+        return bytes(header) + self.octets + bytes(-len(self.octets) % 512)
+
+
+def record(key: str, value: bytes) -> bytes:
+    body = b" " + key.encode() + b"=" + value + b"\n"
+    length = len(body) + 1
+    while len(str(length)) + len(body) != length:
+        length = len(str(length)) + len(body)
+    return str(length).encode() + body
+
+
+def pax(*records: Tuple[str, bytes], kind: bytes = b"x") -> Entry:
+    return Entry(b"pax", b"".join(record(*it) for it in records), kind)
+
+
+END = bytes(1024)
+Entries = List[Entry]
+
+# What is done to a tar: each trick takes its members, the name of the one to be changed, and a generator of random numbers.
+
+
+def _put(entries: Entries, random: Random, *more: Entry) -> None:
+    at = random.randrange(len(entries) + 1)
+    entries[at:at] = more
+
+
+def _again(entries: Entries, name: bytes, random: Random) -> None:
+    _put(entries, random, Entry(name, OTHER))
+
+
+def _of_another_kind(entries: Entries, name: bytes, random: Random) -> None:
+    kind = random.choice((b"\0", b"1", b"2", b"5", b"6", b"7", b"V", b"D", b"M", b"N", b"A", b"s", b"9"))
+    _put(entries, random, Entry(b"other", OTHER))
+    _put(entries, random, Entry(name, b"" if kind in (b"1", b"2", b"5", b"6") and random.random() < 0.8 else OTHER, kind, link=b"other"))
+
+
+def _link_to_it(entries: Entries, name: bytes, random: Random) -> None:
+    """Something is written through a link to the member."""
+    _put(entries, random, Entry(b"link", kind=random.choice((b"1", b"2")), link=name))
+    if random.random() < 0.7:
+        entries.append(Entry(b"link", OTHER))
+
+
+def _through_a_link(entries: Entries, name: bytes, random: Random) -> None:
+    _put(entries, random, Entry(b"d", kind=b"2", link=b"."))
+    _put(entries, random, Entry(b"d/" + name, OTHER))
+
+
+def _is_hard_link(entries: Entries, name: bytes, random: Random) -> None:
+    """The member is a hard link to another, as GNU tar writes it."""
+    at = next(number for number, it in enumerate(entries) if it.name == name)
+    octets, entries[at] = entries[at].octets, Entry(name, kind=b"1", link=b"first")
+    entries.insert(random.randrange(at + 1), Entry(b"first", octets))
+    if random.random() < 0.3:
+        _put(entries, random, Entry(b"first", OTHER))
+
+
+def _spelt(entries: Entries, name: bytes, random: Random) -> None:
+    spellings = (b"./" + name, b"x/../" + name, name + b"/", b"//" + name, name.upper(), b"a/../" + name, name + b"\0x", b"./x/./../" + name)
+    spelling = random.choice(spellings)
+    if random.random() < 0.3:
+        next(it for it in entries if it.name == name).name = spelling
+    else:
+        _put(entries, random, Entry(spelling, OTHER))
+
+
+def _named_by_pax(entries: Entries, name: bytes, random: Random) -> None:
+    records = random.choice(((("path", name),), (("path", b"x"), ("path", name)), (("path", name + b"\0"),), (("GNU.sparse.name", name),),
+                             (("path", name), ("size", b"%d" % random.choice((0, 5, len(OTHER)))))))
+    _put(entries, random, pax(*records, kind=random.choice((b"x", b"x", b"x", b"g", b"X"))), Entry(b"other", OTHER))
+
+
+def _named_by_gnu(entries: Entries, name: bytes, random: Random) -> None:
+    long = Entry(b"././@LongLink", random.choice((name, name + b"\0", name + b"\0x", b"x\0" + name)), random.choice((b"L", b"L", b"K", b"N")))
+    more = (pax(("path", random.choice((b"x", name)))),) if random.random() < 0.3 else ()
+    _put(entries, random, long, *more, Entry(b"other", OTHER))
+
+
+def _sized(entries: Entries, name: bytes, random: Random) -> None:
+    """A size is written in another way, or the header of another member lies in the octets of one for some readers."""
+    hidden = Entry(name, OTHER).written()
+    sizes = (b"0", b" 2000", b"1_0", b"0o17", b"+1000", b"-1", b"\x80" + bytes(9) + b"\4\0", b"\xff" * 12, b"00000002000 ", b"", b"0000000200x", b"1000 000")
+    _put(entries, random, Entry(b"sized", hidden, size=random.choice(sizes)))
+
+
+def _changed_header(entries: Entries, name: bytes, random: Random) -> None:
+    it = random.choice(entries)
+    places = [random.choice((random.randrange(512), random.randrange(100, 160), random.randrange(257, 265), random.randrange(345, 512))) for _ in range(2)]
+    it.changes = tuple((place, random.choice((0, 32, 48, 49, 55, 0x80, 0xFF, 120))) for place in places)
+
+
+def _of_another_form(entries: Entries, name: bytes, random: Random) -> None:
+    magic = random.choice((b"ustar  \0", b"\0" * 8, b"ustar\0  ", b"ustar\x0001", b"USTAR\x0000"))
+    base, _, last = name.rpartition(b"/")
+    _put(entries, random, Entry(last or name, OTHER, magic=magic, prefix=base or random.choice((b"", b"x", b"."))))
+
+
+ENTRY_TRICKS = (_again, _of_another_kind, _link_to_it, _through_a_link, _is_hard_link, _spelt, _named_by_pax, _named_by_gnu, _sized, _changed_header,
+                _of_another_form)
+
+
+def ended_tar(entries: Entries, name: bytes, random: Random) -> Tuple[bytes, str]:
+    """Returns the octets of a tar, of which the end may be another, and what was done to it."""
+    octets, other = b"".join(it.written() for it in entries), Entry(name, OTHER).written()
+    way = random.choice(("", "", "", "", "", "more after the end", "one block of zeros", "damage", "cut", "no end"))
+    middle = random.choice([0, *itertools.accumulate(len(it.written()) for it in entries)])
+    return {
+        "": octets + END, "more after the end": octets + END + other + END, "one block of zeros": octets + bytes(512) + other + END,
+        "damage": octets[:middle] + b"x" * 512 + octets[middle:] + other + END, "cut": octets[: -random.randrange(1, 700)], "no end": octets,
+    }[way], way
+
+
+def tars_of(files: Dict[str, bytes], covers: Dict[str, Iterable[str]]) -> Callable[[Random], Container]:
+    """Returns what makes tars of these files, whose messages cover files by these names."""
+    covered = {place: {name: files[name] for name in names} for place, names in covers.items()}
+    names = sorted({name for some in covered.values() for name in some})
+
+    def make(random: Random) -> Container:
+        entries, how = [Entry(it.encode(), octets) for it, octets in files.items()], []
+        random.shuffle(entries)
+        for trick in random.sample(ENTRY_TRICKS, random.choice((0, 0, 1, 1, 1, 2))):
+            try:
+                trick(entries, random.choice(names).encode(), random)
+            except StopIteration:  # the member has another name by now
+                continue
+            how.append(trick.__name__.strip("_"))
+        octets, way = ended_tar(entries, random.choice(names).encode(), random)
+        return Container(octets, ", ".join(filter(None, [*how, way])), covered)
+
+    return make
+
+
+def tar_kinds(make: Maker) -> Dict[str, Callable[[Random], Container]]:
+    der, attached = make.cms(DOCUMENT), make.cms(DOCUMENT, "-nodetach")
+    files = {"doc": DOCUMENT, "doc.p7s": der, "a/b.p7m": attached, "text.txt": b"text"}
+    return {"tar": tars_of(files, {"doc.p7s": ["doc", "doc.p7s"], "a/b.p7m": ["a/b.p7m"]})}
+
+
+def by_extractall(folder: Path, paths: List[Path]) -> Dict[str, Shown]:
+    """Reads tars as Python unpacks them, but for members that would lie outside, and for FIFOs, for which it would wait."""
+    code = (
+        "import sys, tarfile\n"
+        "with tarfile.open(sys.argv[1], 'r:') as file:\n"
+        "    some = [it for it in file.getmembers() if not it.isfifo()"
+        " and '..' not in it.name + it.linkname and not it.name.startswith('/') and not it.linkname.startswith('/')]\n"
+        "    file.extractall('.', some)\n"
+    )
+    return by_command(sys.executable, "-c", code, "FILE")(folder, paths)
+
+
+def tar_readers() -> Dict[str, Read]:
+    readers: Dict[str, Read] = {"tarfile": by_tarfile, "tarfile, unpacking": by_extractall}
+    if tally.has("tar"):
+        readers["GNU tar"] = by_command("tar", "-xf", "FILE")
+    if tally.has("bsdtar"):
+        readers["bsdtar"] = by_command("bsdtar", "-xf", "FILE")
+    return readers
+
+
 # ---- made by hand
 
 
@@ -462,6 +646,8 @@ def zip_tricks(make: Maker) -> Dict[str, Trick]:
     within, longer = Member(b"doc", DOCUMENT), Member(b"doc", DOCUMENT)
     hidden_in(within, b"doc")
     _longer(Zip([longer]), b"doc", Random(0))
+    unended = Member(b"doc", DOCUMENT)
+    unended.packed = bytes([unended.packed_octets()[0] ^ 1]) + unended.packed_octets()[1:]  # its last block is not marked as that
     members = [Member(name.encode(), octets) for name, octets in with_manifest(make, {"doc": DOCUMENT, "A.class": b"class"}).items()]
     renamed = [replace(it, name=b"./A.class") if it.name == b"A.class" else it for it in members]
     of_android = {"AndroidManifest.xml": b"m", "classes.dex": DOCUMENT}
@@ -482,6 +668,8 @@ def zip_tricks(make: Maker) -> Dict[str, Trick]:
         "steps.zip": Trick(Zip([*plain, Member(b"x/../doc", OTHER)]).written(), "doc.p7s", unclear, differ),
         "capitals.zip": Trick(Zip([*plain, Member(b"DOC", OTHER)]).written(), "doc.p7s", FITS, "on some file systems"),
         "link.zip": Trick(Zip([link, signature]).written(), "doc.p7s", unclear, "symbolic link"),
+        "no end.zip": Trick(Zip([unended, signature]).written(), "doc.p7s", "damaged", "no end"),
+        "device.zip": Trick(Zip([replace(doc, listed={"mode": 0xFFA4 << 16}), signature]).written(), "doc.p7s", unclear, "it is no file"),
         "attached.zip": Trick(Zip([Member(b"a.p7m", make.cms(DOCUMENT, "-nodetach")), Member(b"a.p7m", OTHER, is_listed=False)]).written(), "a.p7m",
                               FITS, differ),
         "some.jar": Trick(Zip(members).written(), block, FITS),
@@ -493,6 +681,43 @@ def zip_tricks(make: Maker) -> Dict[str, Trick]:
         "half stripped.apk": Trick(Zip(said, gap=apk_block(0x7109871A)).written(), block, unclear, "signature of scheme 3, and there is none"),
     }
     return beside
+
+
+def tar_tricks(make: Maker) -> Dict[str, Trick]:
+    """Returns tars in which another member replaces the one that was compared, and some in which none does."""
+    der, attached = make.cms(DOCUMENT), make.cms(DOCUMENT, "-nodetach")
+    doc, signature, other, message = Entry(b"doc", DOCUMENT), Entry(b"doc.p7s", der), Entry(b"other", OTHER), Entry(b"a.p7m", attached)
+    linked = [Entry(b"orig", DOCUMENT), Entry(b"doc", kind=b"1", link=b"orig"), signature]
+    differ, again = "readers differ on ", "readers differ on doc: another member has its name"
+
+    def tar(*entries: Entry, end: bytes = END) -> bytes:
+        return b"".join(it.written() for it in entries) + end
+
+    def beside(words: str, *entries: Entry, end: bytes = END) -> Trick:
+        return Trick(tar(*entries, end=end), "doc.p7s", FITS, words)
+
+    return {
+        "plain.tar": beside("", doc, signature),
+        "dots.tar": Trick(tar(Entry(b"./", kind=b"5"), replace(doc, name=b"./doc"), replace(signature, name=b"./doc.p7s")), "./doc.p7s", FITS),
+        "pax.tar": beside("", pax(("comment", b"a commit"), kind=b"g"), pax(("path", b"doc"), ("mtime", b"1.5")), replace(doc, name=b"d"), signature),
+        "gnu.tar": beside("", Entry(b"././@LongLink", b"doc\0", b"L"), replace(doc, name=b"d", magic=b"ustar  \0"), signature),
+        "hard link.tar": beside("", *linked),
+        "unknown.tar": beside("", replace(doc, kind=b"9"), signature),
+        "hard link over it.tar": Trick(tar(other, doc, signature, Entry(b"doc", kind=b"1", link=b"other")), "doc.p7s#2", FITS, again),
+        "link over it.tar": beside(again, other, doc, signature, Entry(b"doc", kind=b"2", link=b"other")),
+        "unknown over it.tar": beside(again, doc, signature, Entry(b"doc", OTHER, b"9")),
+        "folder over it.tar": beside(again, doc, signature, Entry(b"doc/", kind=b"5")),
+        "through a link.tar": beside("it lies below a link", doc, signature, Entry(b"d", kind=b"2", link=b"."), Entry(b"d/doc", OTHER)),
+        "written through a link.tar": beside(again, doc, signature, Entry(b"l", kind=b"1", link=b"doc"), Entry(b"l", OTHER)),
+        "target again.tar": beside(again, *linked, Entry(b"orig", OTHER)),
+        "twice.tar": Trick(tar(message, Entry(b"a.p7m", OTHER)), "a.p7m", FITS, "readers differ on a.p7m: another member has its name"),
+        "capitals.tar": beside("on some file systems", doc, signature, Entry(b"DOC", OTHER)),
+        "after the end.tar": beside("what follows its end", doc, signature, end=END + Entry(b"doc", OTHER).written() + END),
+        "damaged.tar": beside("what follows its damage", doc, signature, end=b"x" * 512 + Entry(b"doc", OTHER).written() + END),
+        "prefix.tar": beside(differ, doc, signature, Entry(b"doc", OTHER, magic=b"ustar  \0", prefix=b"x")),
+        "size.tar": beside(differ, doc, signature, Entry(b"o", Entry(b"doc", OTHER).written(), size=b"1_0")),
+        "message by a hard link.tar": Trick(tar(doc, Entry(b"x", der), Entry(b"doc.p7s", kind=b"1", link=b"x")), "doc.p7s", FITS),
+    }
 
 
 def unicode_path(name: bytes) -> bytes:
@@ -540,6 +765,12 @@ def differing(container: Container, places: Set[str], shown: Shown) -> List[str]
     return wrong
 
 
+def keep(path: Path) -> None:
+    """Keeps a container that is judged wrongly, if a folder for them is named in the environment."""
+    if folder := os.environ.get("KEPT_CONTAINERS"):
+        shutil.copy(path, Path(folder) / path.name)
+
+
 def judge_kind(archive, folder: Path, name: str, kind: Kind, random: Random, number: int) -> None:
     """No reader shows other octets than those that are said to fit."""
     begin, containers, fitting = time.monotonic(), {}, {}
@@ -555,6 +786,7 @@ def judge_kind(archive, folder: Path, name: str, kind: Kind, random: Random, num
         for file, shown in read(folder / "unpacked", paths).items():
             if names := differing(containers[file], fitting[file], shown):
                 wrong.append(f"{reader} of {file} ({containers[file].how}): {names[:3]}")
+                keep(folder / file)
     count(f"{number:,} of {name}", wrong[:5])
     count_if(f"{name} that fits, and that is noted", 0 < len(paths) < number, len(paths))
     if "-v" in sys.argv:
@@ -569,10 +801,10 @@ def judge_copy(home: Path) -> None:
     given = [int(it) for it in sys.argv[1:3] if it.isdigit()]
     number, seed = [*given, *[CONTAINERS, SEED][len(given) :]]
     random, of_zips = Random(seed), zip_readers()
-    judge_tricks(archive, home / "by hand", zip_tricks(make))
-    makers = zip_kinds(make)
-    for name, it in makers.items():
-        judge_kind(archive, home / f"random {name}", name, Kind(name.rpartition(".")[2], it, of_zips), random, number // len(makers))
+    judge_tricks(archive, home / "by hand", {**zip_tricks(make), **tar_tricks(make)})
+    for some, readers in ((zip_kinds(make), of_zips), (tar_kinds(make), tar_readers())):
+        for name, it in some.items():
+            judge_kind(archive, home / f"random {name}", name, Kind(name.rpartition(".")[2], it, readers), random, number // len(some))
 
 
 if __name__ == "__main__":

@@ -7,15 +7,14 @@ and if there is one list with one end. An APK signing block, which lies before t
 
 from __future__ import annotations
 
-import re
 import stat
 import struct
-import unicodedata
 import zipfile
 import zlib
 from dataclasses import dataclass
-from typing import BinaryIO, Dict, FrozenSet, Iterable, Iterator, List, NamedTuple, Sequence, Set, Tuple
+from typing import BinaryIO, Dict, FrozenSet, Iterable, Iterator, NamedTuple, Sequence, Set, Tuple
 
+from .names import folded, path_of, paths_of
 from .sources import PIECE, Budget
 
 END_MAGIC, ENTRY_MAGIC, LOCAL_MAGIC = b"PK\5\6", b"PK\1\2", b"PK\3\4"
@@ -33,8 +32,7 @@ _FLAGS = _ENCRYPTED | _DESCRIBED | 0x40 | _UTF_8 | 0x2000  # of these both heade
 _NUMBERS, _UNICODE_PATH = 1, 0x7075  # extra fields
 _APK_MAGIC = b"APK Sig Block 42"
 _APK_SCHEMES = {0x7109871A: 2, 0xF05368C0: 3, 0x1B93AD61: 3}  # by the numbers of their parts of the block
-_UNIX = 3  # the system of a member that has a mode
-_STEP = re.compile(r"[/\\]")
+_DOS_FOLDER = 0x10
 
 
 # ---- the end of the file
@@ -234,25 +232,20 @@ def _schemes_of(block: bytes) -> FrozenSet[int]:
 # ---- names
 
 
-def _steps(name: str, goes_back: bool) -> str:
-    """Returns where a name leads. Some readers go back at `..`, and others leave it out."""
-    steps: List[str] = []
-    for step in _STEP.split(name):
-        if step == ".." and goes_back:
-            del steps[-1:]
-        elif step not in ("", ".", ".."):
-            steps.append(step)
-    return "/".join(steps)
-
-
 def _spellings(info: zipfile.ZipInfo) -> Set[str]:
     """Returns the names that readers have for a member: some take each name for UTF-8, or one from an extra field."""
     others = {_raw_name(info), *_unicode_paths(info.extra)}
     return {info.filename, *(it.decode("utf-8", "replace") for it in others)}
 
 
-def _is_link(info: zipfile.ZipInfo) -> bool:
-    return info.create_system == _UNIX and stat.S_ISLNK(info.external_attr >> 16)
+def _other_kind(info: zipfile.ZipInfo) -> str:
+    """Returns what a member is for some readers in place of a file; empty if it is a file, or a folder, for all."""
+    kind = stat.S_IFMT(info.external_attr >> 16)
+    if kind == stat.S_IFLNK:
+        return "a symbolic link"
+    if kind == stat.S_IFDIR and not info.is_dir() or info.external_attr & _DOS_FOLDER and not info.is_dir() or info.is_dir() and info.file_size:
+        return "a folder"
+    return "" if kind in (0, stat.S_IFREG, stat.S_IFDIR) else "no file"
 
 
 def _odd_name(info: zipfile.ZipInfo) -> str:
@@ -261,7 +254,7 @@ def _odd_name(info: zipfile.ZipInfo) -> str:
     if len(_spellings(info)) > 1 or "\0" in info.orig_filename:
         return "its name has other characters for some readers"
     path = name[:-1] if name.endswith("/") else name
-    return "" if _steps(name, goes_back=True) == path and "\\" not in name else "some readers have another path for it"
+    return "" if path_of(name) == path and "\\" not in name else "some readers have another path for it"
 
 
 class _Paths:
@@ -274,7 +267,7 @@ class _Paths:
         self.alike: Set[str] = set()
         folders: Set[str] = set()
         for info in infos:
-            paths = {_steps(it, goes_back) for it in _spellings(info) for goes_back in (True, False)}
+            paths = {path for it in _spellings(info) for path in paths_of(it)}
             if info.is_dir() and not info.file_size:
                 folders |= paths
                 continue
@@ -286,8 +279,7 @@ class _Paths:
     def _add(self, path: str, info: zipfile.ZipInfo) -> None:
         if (other := self._first.setdefault(path, info)) is not info:
             self.same |= {other.filename, info.filename}
-        folded = unicodedata.normalize("NFC", unicodedata.normalize("NFC", path).casefold())
-        if (other := self._folded.setdefault(folded, info)) is not info:
+        if (other := self._folded.setdefault(folded(path), info)) is not info:
             self.alike |= {other.filename, info.filename}
 
     def _add_through(self, paths: Sequence[str]) -> None:
@@ -355,10 +347,8 @@ def layout_of(file: BinaryIO, end: End, infos: Sequence[zipfile.ZipInfo], budget
     paths = _Paths(infos)
     same = {name: "two members have one name" for name in paths.same}
     for info in infos:
-        if _is_link(info):
-            same.setdefault(info.filename, "it is a symbolic link for some readers")
-        elif info.is_dir() and info.file_size:
-            same.setdefault(info.filename, "it is a folder for some readers")
+        if kind := _other_kind(info):
+            same.setdefault(info.filename, f"it is {kind} for some readers")
     named = {it.filename: why for it in infos if (why := _odd_name(it))}
     named.update({name: "on some file systems two members have one name" for name in paths.alike})
     return Layout(whole, same, named, block)

@@ -11,7 +11,6 @@ from .found import State
 Digest = Callable[[str, Set[str]], Optional[Dict[str, bytes]]]
 """Returns the digests of a file by these algorithms, as hashlib names them; None if there is no such file."""
 NAMED = 3  # files that a note names
-READERS_DIFFER = "readers differ on "
 WEAK = {"md5", "sha1"}  # algorithms by which another file with the same digest can be made
 _BAD = [State.FITS, State.PARTLY, State.NOT_COMPARED, State.DIFFERS]  # the last is the worst
 _ALGORITHMS = {

@@ -7,7 +7,8 @@ proportion to the file.
 from __future__ import annotations
 
 import io
-from typing import BinaryIO, Optional
+from contextlib import contextmanager
+from typing import BinaryIO, Iterator, Optional
 
 import cms_canon
 
@@ -106,6 +107,14 @@ class Source:
             return io.BytesIO(self.octets())
         self._file.seek(0)
         return self._file
+
+    @contextmanager
+    def aside(self) -> Iterator[None]:
+        """Lets the file be read from its beginning meanwhile."""
+        at = self._file.tell() if self._is_seekable else 0
+        yield
+        if self._is_seekable:
+            self._file.seek(at)
 
     def inner(self, name: str, file: BinaryIO, size: int) -> Source:
         """Returns a member as a source within the same budget."""

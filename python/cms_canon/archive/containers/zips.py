@@ -3,6 +3,7 @@
 from __future__ import annotations
 
 import hashlib
+import io
 import re
 import zipfile
 from copy import copy
@@ -13,7 +14,8 @@ from typing import IO, BinaryIO, Callable, Dict, FrozenSet, Iterator, List, Opti
 from . import asic, jar
 from .found import Class, Content, Found, State
 from .layout import ENTRY_MAGIC, LOCATORS, End, Layout, end_of, layout_of
-from .manifests import READERS_DIFFER, Compared, at_best, compared, not_covered, plain, said_of
+from .manifests import Compared, at_best, compared, not_covered, plain, said_of
+from .names import READERS_DIFFER, differing
 from .packed import Damaged, content_read, why_of
 from .sources import MOST_IN_MEMORY, PIECE, Budget, Ended, Source, TooLarge
 
@@ -44,6 +46,22 @@ def _refuse_many(file: BinaryIO, end: End, budget: Budget) -> None:
     file.seek(begin)
     if file.read(end.at - begin).count(ENTRY_MAGIC) > MOST_IN_ZIP:
         raise TooLarge(f"it has more than {MOST_IN_ZIP:,} members")
+
+
+class _Unpacked(io.RawIOBase):
+    """A member as it is unpacked. zipfile takes the end of the packed octets for the end of the member; other readers want the mark of its end."""
+
+    def __init__(self, member: IO[bytes]) -> None:
+        self._member = member
+
+    def read(self, size: int = -1) -> bytes:
+        octets = self._member.read(size)
+        if not octets and size and not getattr(getattr(self._member, "_decompressor", None), "eof", True):
+            raise Damaged("its packed octets have no end")
+        return octets
+
+    def close(self) -> None:
+        self._member.close()
 
 
 class _Zip:
@@ -94,8 +112,7 @@ class _Zip:
 
     def reason(self, name: str) -> str:
         """Returns what is to be said of a message in the member of this name, or of a content that it is."""
-        reason = self.layout.reason(name)
-        return "; ".join(filter(None, (f"{READERS_DIFFER}{name}: {reason}" if reason else "", self.around)))
+        return "; ".join(filter(None, (differing(name, self.layout.reason(name)), self.around)))
 
     def takes_signature(self) -> bool:
         """Whether one more signature may be compared with all members; each takes from the budget what that costs."""
@@ -113,12 +130,12 @@ class _Zip:
         """Returns the name of the member of a plain name."""
         return name if name in self.infos else self._plain.get(name)
 
-    def opened(self, info: zipfile.ZipInfo) -> IO[bytes]:
+    def opened(self, info: zipfile.ZipInfo) -> _Unpacked:
         """Opens a member. If it has more octets than both headers say, zipfile would stop at these, where other readers do not: so it gets the
         chance to see one octet more, of which the check sum then is another."""
         longer = copy(info)
         longer.file_size += 1
-        return self.file.open(longer)
+        return _Unpacked(self.file.open(longer))
 
     def read(self, info: zipfile.ZipInfo) -> bytes:
         with self.opened(info) as member:
