@@ -698,7 +698,7 @@ def judge_limits(archive, folder: Path) -> None:
         ("too many members", many, mock.patch.object(archive.zips, "MOST_IN_ZIP", 8), left, "", "", 3),
         ("bombs in a zip", zips, mock.patch.object(sources, "FREE", 200 << 20), large, "", "", None),
         ("a bomb in a tar", tar, mock.patch.object(sources, "FREE", 1 << 20), large, "", "octets would be read", None),
-        ("a tar of too many members", members, mock.patch.object(sources, "MOST_MEMBERS", 10), large, "", "", 11),
+        ("a tar of too many members", members, mock.patch.multiple(sources, MOST_MEMBERS=10, OCTETS_OF_A_MEMBER=1 << 30), large, "", "", 11),
     ):
         with limit:
             came, facts = said_in(archive, folder, name, octets)

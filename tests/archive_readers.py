@@ -720,6 +720,28 @@ def tar_tricks(make: Maker) -> Dict[str, Trick]:
     }
 
 
+def asic_tricks(make: Maker) -> Dict[str, Trick]:
+    """Returns containers in which two manifests name one signature, that is of the first, of the last, or of none."""
+    signature, kind = "META-INF/signature001.p7s", "application/x-pkcs7-signature"
+    mine, other = manifest(signature, kind, {"doc": DOCUMENT}), manifest(signature, kind, {"doc": OTHER})
+    token = "META-INF/timestamp001.tst"
+    stamped, other_stamped = (it.replace(signature.encode(), token.encode()) for it in (mine, other))
+
+    def container(place: str, octets: bytes, *manifests: bytes) -> bytes:
+        files = {f"META-INF/ASiCManifest{number}.xml": it for number, it in enumerate(manifests)}
+        return Zip([Member(name.encode(), it) for name, it in {"doc": DOCUMENT, **files, place: octets}.items()]).written()
+
+    words = "2 manifests name this signature"
+    return {
+        "first.asice": Trick(container(signature, make.cms(mine), mine, other), signature, FITS, words),
+        "last.asice": Trick(container(signature, make.cms(mine), other, mine), signature, FITS, words),
+        "first stamped.asice": Trick(container(token, make.token(stamped), stamped, other_stamped), token, FITS, words),
+        "last stamped.asice": Trick(container(token, make.token(stamped), other_stamped, stamped), token, FITS, words),
+        "none.asice": Trick(container(signature, make.cms(b"another"), other, mine), signature, "does not fit", words),
+        "signed for another.asice": Trick(container(signature, make.cms(other), other, mine), signature, "does not fit", words),
+    }
+
+
 def unicode_path(name: bytes) -> bytes:
     return struct.pack("<HHBL", 0x7075, 5 + len(name), 1, zlib.crc32(b"doc")) + name
 
@@ -801,7 +823,7 @@ def judge_copy(home: Path) -> None:
     given = [int(it) for it in sys.argv[1:3] if it.isdigit()]
     number, seed = [*given, *[CONTAINERS, SEED][len(given) :]]
     random, of_zips = Random(seed), zip_readers()
-    judge_tricks(archive, home / "by hand", {**zip_tricks(make), **tar_tricks(make)})
+    judge_tricks(archive, home / "by hand", {**zip_tricks(make), **tar_tricks(make), **asic_tricks(make)})
     for some, readers in ((zip_kinds(make), of_zips), (tar_kinds(make), tar_readers())):
         for name, it in some.items():
             judge_kind(archive, home / f"random {name}", name, Kind(name.rpartition(".")[2], it, readers), random, number // len(some))

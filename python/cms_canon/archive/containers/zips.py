@@ -26,8 +26,10 @@ MAGICS = (b"PK\3\4", b"PK\5\6")
 MOST_IN_DIRECTORY = 128 << 20  # octets of the list of members, which is read at once
 MOST_IN_ZIP = 250_000  # members of one zip, for each of which zipfile makes an object
 MOST_SIGNATURES = 1000  # of one JAR or ASiC container that are compared with its members
+MOST_SECTIONS = 1000  # of a manifest of a JAR, and two more for each member
 _OCTETS_OF_A_NAME = 64  # that count as read if a signature is compared with a member
 _META_INF = "META-INF/"
+_WITH_MEANING = (_META_INF, "ANDROIDMANIFEST.XML")
 _OOXML = re.compile(r"_xmlsignatures/[^/]+\.xml\Z", re.I)
 _ODF = "META-INF/documentsignatures.xml"
 
@@ -71,14 +73,17 @@ class _Zip:
         self.source = source
         self.file = file
         self.infos = {it.filename: it for it in file.infolist()}  # of equal names the last, as Java has it
-        self._plain = {plain(name): name for name in self.infos if not name.endswith("/")}
-        self._by_capitals = {name.upper(): name for name in self.infos}
+        self._by_capitals = {capitals: name for name in self.infos if (capitals := name.upper()).startswith(_WITH_MEANING)}
         self._digests: Dict[str, Dict[str, bytes]] = {}
         self._signatures = 0
         self._end = end
         before = min((it.header_offset for it in file.infolist()), default=0)
         some = (before, "lie before the first member"), (end.after, "follow the end")
         self.around = "; ".join(f"{octets:,} octets {where}" for octets, where in some if octets)
+
+    @cached_property
+    def _plain(self) -> Dict[str, str]:
+        return {plain(name): name for name in self.infos if not name.endswith("/")}
 
     @cached_property
     def layout(self) -> Layout:
@@ -123,7 +128,7 @@ class _Zip:
         return True
 
     def named(self, name: str) -> Optional[str]:
-        """Returns the name of a member, written in whatever capitals."""
+        """Returns the name of a member that says what kind of file it is, written in whatever capitals."""
         return self._by_capitals.get(name.upper())
 
     def plainly(self, name: str) -> Optional[str]:
@@ -166,7 +171,12 @@ class _Zip:
     def manifest(self) -> Optional[jar.Manifest]:
         """The manifest of a JAR."""
         name = self.named("META-INF/MANIFEST.MF")
-        return jar.Manifest(self.read(self.infos[name])) if name else None
+        return jar.Manifest(self.read(self.infos[name]), self.limits) if name else None
+
+    @property
+    def limits(self) -> jar.Limits:
+        """How much of a manifest may be read: it lists members, also some that are gone."""
+        return jar.Limits(self.source.budget, MOST_SECTIONS + 2 * len(self.infos))
 
     @cached_property
     def files(self) -> List[str]:
@@ -218,13 +228,15 @@ def in_zip(source: Source, search: Search) -> Iterator[Found]:
                 yield from _in_member(whole, name, info, manifests, search)
             except (Ended, MemoryError):
                 raise
+            except TooLarge as why:
+                yield Found(name, "file", Class.TOO_LARGE, info.file_size, note=str(why))
             except Exception as why:  # zipfile and what it calls raise errors of any kind for a file that is damaged
                 yield Found(name, "file", Class.UNREADABLE if info.flag_bits & 1 else Class.DAMAGED, info.file_size, note=why_of(why))
         yield Found("", whole.form, Class.EMPTY, source.size, note=whole.note)
 
 
 def _in_member(
-    whole: _Zip, name: str, info: zipfile.ZipInfo, manifests: Dict[str, asic.Manifest], search: Search
+    whole: _Zip, name: str, info: zipfile.ZipInfo, manifests: Dict[str, List[asic.Manifest]], search: Search
 ) -> Iterator[Found]:
     signature_name = jar.stem_of(name) if whole.form in ("JAR", "APK") else None
     if signature_name is None and not asic.SIGNATURE.match(name):
@@ -277,28 +289,30 @@ def _in_jar(whole: _Zip, name: str, block: bytes, signature_name: str) -> Found:
     signature_file = whole.read(whole.infos[signature])
     whole.source.budget.take(len(whole.manifest.octets) if whole.manifest else 0)
     came = jar.compared_with_files(signature_file, whole.manifest, whole.due_in_jar, whole.digest)
-    if gone := jar.schemes_of(signature_file) - whole.layout.apk_schemes:
+    if gone := jar.schemes_of(signature_file, whole.limits) - whole.layout.apk_schemes:
         schemes = " and ".join(map(str, sorted(gone)))
         came = at_best(came, State.NOT_COMPARED, f"the signature file says that there is an APK signature of scheme {schemes}, and there is none")
     return jar.found_of(name, block, signature, signature_file, whole.judged(came))
 
 
-def _manifests_of(whole: _Zip) -> Dict[str, asic.Manifest]:
-    """Returns the manifests of ASiC-E, by the plain names of what signs them. One that cannot be read is none."""
-    found: Dict[str, asic.Manifest] = {}
+def _manifests_of(whole: _Zip) -> Dict[str, List[asic.Manifest]]:
+    """Returns the manifests of ASiC-E, by the plain names of what signs them: several may name one signature. One that cannot be read is none."""
+    found: Dict[str, List[asic.Manifest]] = {}
     for name in filter(asic.MANIFEST.match, whole.infos):
         try:
-            manifest = asic.manifest_of(name, whole.read(whole.infos[name]))
+            manifest = asic.manifest_of(name, whole.read(whole.infos[name]), whole.source.budget)
         except (asic.NotAManifest, zipfile.BadZipFile, OSError, Damaged):
             continue
-        found[manifest.signature] = manifest
+        found.setdefault(manifest.signature, []).append(manifest)
     return found
 
 
-def _in_asic(whole: _Zip, name: str, message: bytes, manifests: Dict[str, asic.Manifest]) -> Found:
-    manifest = manifests.get(plain(name))
-    if manifest is not None:
+def _in_asic(whole: _Zip, name: str, message: bytes, manifests: Dict[str, List[asic.Manifest]]) -> Found:
+    if some := manifests.get(plain(name)):
+        manifest = asic.signed_of(message, some, whole.source.budget)
         came = compared(manifest.listed, whole.due, whole.digest_plainly)
+        if len(some) > 1:
+            came = at_best(came, State.FITS, f"{len(some):,} manifests name this signature")
         return asic.found_in_e(name, message, manifest, whole.judged(came))
     data = whole.plainly(whole.data[0]) if len(whole.data) == 1 and not manifests else None
     if data is not None:
