@@ -6,7 +6,7 @@
 A generator makes so many containers of each kind (1,500 if no number is named), most of them with something odd: a member twice, hidden,
 linked, cut, renamed, or with octets changed at random. If it is said of a message that it fits, and no note says that readers differ, then no
 reader may show other octets under a name that the message covers. The readers are unzip, bsdtar (of a file and of a pipe), GNU tar, Java's JarFile
-and ZipInputStream, jarsigner, and Python's zipfile and tarfile; what is missing is skipped by its name. There are also containers that were
+(also as jarsigner has it, which verifies) and ZipInputStream, and Python's zipfile and tarfile; what is missing is skipped by its name. There are also containers that were
 each made by hand for one such trick: each has to be noted.
 
 Another kind of container is one more `Kind`: its generator, and the readers of it.
@@ -424,7 +424,7 @@ def zip_readers() -> Dict[str, Read]:
         readers["bsdtar"] = by_command("bsdtar", "-xf", "FILE")
         readers["bsdtar of a pipe"] = by_command("bsdtar", "-xf", "-", is_piped=True)
     if tally.has("java"):
-        readers["JarFile"], readers["ZipInputStream"] = by_java("JarFile"), by_java("ZipInputStream")
+        readers.update({name: by_java(name) for name in ("JarFile", "verifying JarFile", "ZipInputStream")})
     return readers
 
 

@@ -1,4 +1,5 @@
 import java.io.BufferedReader;
+import java.io.ByteArrayInputStream;
 import java.io.FileInputStream;
 import java.io.InputStream;
 import java.io.InputStreamReader;
@@ -15,8 +16,8 @@ import java.util.zip.ZipInputStream;
 /**
  * Reads zips as Java does, so that tests/archive_readers.py can compare that with what other readers show.
  *
- * <p>Its argument names the reader, JarFile or ZipInputStream. A line of the input is a path. For each the output has a line for each member:
- * the path, the name of the member in hexadecimal digits, and the SHA-256 of its octets.
+ * <p>Its argument names the reader: JarFile, a verifying JarFile (as jarsigner has it), or ZipInputStream. A line of the input is a path. For
+ * each the output has a line for each member: the path, the name of the member in hexadecimal digits, and the SHA-256 of its octets.
  */
 public final class ArchiveReaders {
     private static final PrintStream OUT = new PrintStream(System.out, false, StandardCharsets.UTF_8);
@@ -31,8 +32,8 @@ public final class ArchiveReaders {
         OUT.println(path + "\t" + hex.formatHex(name.getBytes(StandardCharsets.UTF_8)) + "\t" + hex.formatHex(digest.digest()));
     }
 
-    private static void showFile(String path) {
-        try (JarFile file = new JarFile(path, false)) {
+    private static void showFile(String path, boolean isVerified) {
+        try (JarFile file = new JarFile(path, isVerified)) {
             for (Enumeration<JarEntry> entries = file.entries(); entries.hasMoreElements(); ) {
                 JarEntry entry = file.getJarEntry(entries.nextElement().getName());
                 if (entry == null || entry.isDirectory() && entry.getSize() == 0) {
@@ -40,6 +41,8 @@ public final class ArchiveReaders {
                 }
                 try (InputStream octets = file.getInputStream(entry)) {
                     show(path, entry.getName(), octets);
+                } catch (SecurityException why) {
+                    show(path, entry.getName(), new ByteArrayInputStream("refused by its signature".getBytes(StandardCharsets.UTF_8)));
                 } catch (Exception why) {
                     continue; // it does not show this member
                 }
@@ -64,10 +67,10 @@ public final class ArchiveReaders {
     public static void main(String[] words) throws Exception {
         BufferedReader in = new BufferedReader(new InputStreamReader(System.in, StandardCharsets.UTF_8));
         for (String path = in.readLine(); path != null; path = in.readLine()) {
-            if (words[0].equals("JarFile")) {
-                showFile(path);
-            } else {
+            if (words[0].equals("ZipInputStream")) {
                 showStream(path);
+            } else {
+                showFile(path, words[0].equals("verifying JarFile"));
             }
         }
         OUT.flush();
