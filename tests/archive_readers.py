@@ -16,6 +16,7 @@ import base64
 import hashlib
 import io
 import itertools
+import json
 import os
 import re
 import shutil
@@ -34,7 +35,7 @@ from pathlib import Path
 from random import Random
 from typing import Callable, Dict, FrozenSet, Iterable, Iterator, List, NamedTuple, Optional, Set, Tuple
 
-from archive import SECONDS, TOP, count, count_if, count_same, judged_in_a_copy, modules_of, tally, write_files
+from archive import SECONDS, TOP, count, count_if, count_same, ended, judged_in_a_copy, modules_of, ran, tally, write_files
 from archive_containers import DOCUMENT, FITS, Maker, made_jar, manifest, said_of, section, unzipped
 
 CONTAINERS = 1500  # of each kind
@@ -775,6 +776,22 @@ def said_to_fit(archive, path: Path) -> Set[str]:
     return {where for where, it in facts.items() if it.state is not None and it.state.value == FITS and not it.note}
 
 
+def judge_check(home: Path, folder: Path, tricks: Dict[str, Trick]) -> None:
+    """What readers differ on is listed by `check`, and what they do not is not."""
+    some = {name: it for name, it in tricks.items() if it.state == FITS}
+    listed = lines_of_check(home, write_files(folder, {name: it.octets for name, it in some.items()}))
+    wanted = sorted(f"{name}!{it.place}" for name, it in some.items() if it.words.startswith(("readers differ", "on some", "it lies", "what follows")))
+    count_same("what `check` lists of what was made by hand", sorted(it for it in listed if it in {f"{name}!{one.place}" for name, one in some.items()}), wanted)
+
+
+def lines_of_check(home: Path, folder: Path) -> List[str]:
+    """Returns the names of messages, in the files of a folder, that `check` lists."""
+    store = ("--store", folder.parent / "index.db")
+    ran(home, "index", folder, *store)
+    lines = ended(home, "check", "--json", *store).stdout.splitlines()
+    return [os.path.relpath(json.loads(line)["file"], folder) for line in lines]
+
+
 def differing(container: Container, places: Set[str], shown: Shown) -> List[str]:
     """Returns the names under which a reader shows something else than is said to fit."""
     wrong = []
@@ -823,11 +840,13 @@ def judge_copy(home: Path) -> None:
     given = [int(it) for it in sys.argv[1:3] if it.isdigit()]
     number, seed = [*given, *[CONTAINERS, SEED][len(given) :]]
     random, of_zips = Random(seed), zip_readers()
-    judge_tricks(archive, home / "by hand", {**zip_tricks(make), **tar_tricks(make), **asic_tricks(make)})
+    tricks = {**zip_tricks(make), **tar_tricks(make), **asic_tricks(make)}
+    judge_tricks(archive, home / "by hand", tricks)
+    judge_check(home, home / "listed" / "by hand", tricks)
     for some, readers in ((zip_kinds(make), of_zips), (tar_kinds(make), tar_readers())):
         for name, it in some.items():
             judge_kind(archive, home / f"random {name}", name, Kind(name.rpartition(".")[2], it, readers), random, number // len(some))
 
 
 if __name__ == "__main__":
-    sys.exit(judged_in_a_copy(("cryptography",), judge_copy) if tally.has("openssl") else tally.end(may_skip_all=True))
+    sys.exit(judged_in_a_copy(("cryptography", "click", "tqdm", "sqlalchemy"), judge_copy) if tally.has("openssl") else tally.end(may_skip_all=True))
