@@ -6,7 +6,6 @@ import hashlib
 import io
 import re
 import zipfile
-from copy import copy
 from dataclasses import replace
 from functools import cached_property
 from typing import IO, BinaryIO, Callable, Dict, FrozenSet, Iterator, List, Optional, Set
@@ -138,9 +137,11 @@ class _Zip:
     def opened(self, info: zipfile.ZipInfo) -> _Unpacked:
         """Opens a member. If it has more octets than both headers say, zipfile would stop at these, where other readers do not: so it gets the
         chance to see one octet more, of which the check sum then is another."""
-        longer = copy(info)
-        longer.file_size += 1
-        return _Unpacked(self.file.open(longer))
+        info.file_size += 1
+        try:
+            return _Unpacked(self.file.open(info))
+        finally:
+            info.file_size -= 1
 
     def read(self, info: zipfile.ZipInfo) -> bytes:
         with self.opened(info) as member:
