@@ -676,6 +676,7 @@ def zip_tricks(make: Maker) -> Dict[str, Trick]:
         "some.jar": Trick(Zip(members).written(), block, FITS),
         "other path.jar": Trick(Zip(renamed).written(), block, "does not fit", "A.class"),
         "hidden.jar": Trick(Zip([Member(b"A.class", OTHER, is_listed=False), *members]).written(), block, unclear, differ),
+        "dots at the end.zip": Trick(Zip([*plain, Member(b"doc. ", OTHER)]).written(), "doc.p7s", FITS, "on some file systems"),
         "capitals.jar": Trick(Zip([*members, Member(b"a.class", OTHER)]).written(), block, "fits, but covers only some files", "on some file systems"),
         "signed.apk": Trick(Zip(said, gap=apk_block(0x7109871A, 0xF05368C0)).written(), block, FITS, "an APK signing block of 64 octets"),
         "stripped.apk": Trick(Zip(said).written(), block, unclear, "signature of scheme 2 and 3, and there is none"),
@@ -716,6 +717,9 @@ def tar_tricks(make: Maker) -> Dict[str, Trick]:
         "after the end.tar": beside("what follows its end", doc, signature, end=END + Entry(b"doc", OTHER).written() + END),
         "damaged.tar": beside("what follows its damage", doc, signature, end=b"x" * 512 + Entry(b"doc", OTHER).written() + END),
         "prefix.tar": beside(differ, doc, signature, Entry(b"doc", OTHER, magic=b"ustar  \0", prefix=b"x")),
+        "slash.tar": beside(differ, doc, signature, pax(("path", b"x/")), Entry(b"o", OTHER)),
+        "size of a link.tar": beside(differ, doc, signature, pax(("size", b"512")), Entry(b"l", kind=b"2", link=b"o"), Entry(b"doc", OTHER)),
+        "dots at the end.tar": beside("on some file systems", doc, signature, Entry(b"doc.", OTHER)),
         "size.tar": beside(differ, doc, signature, Entry(b"o", Entry(b"doc", OTHER).written(), size=b"1_0")),
         "message by a hard link.tar": Trick(tar(doc, Entry(b"x", der), Entry(b"doc.p7s", kind=b"1", link=b"x")), "doc.p7s", FITS),
     }

@@ -139,7 +139,7 @@ class _Headers:
         known = (info.CRC, info.file_size, info.compress_size)
         is_same = all(number == other or flags & _DESCRIBED and not number for number, other in zip((crc, *sizes), known))
         is_same = is_same and (flags ^ info.flag_bits) & _FLAGS == 0 and method == info.compress_type and more[:name] == raw
-        is_same = is_same and _unicode_paths(more[name:]) <= _unicode_paths(info.extra) | {raw}
+        is_same = is_same and not info.volume and _unicode_paths(more[name:]) <= _unicode_paths(info.extra) | {raw}
         return _Member(info, begin, data, data + info.compress_size, "" if is_same else "its two headers differ")
 
     def odd_end(self, member: _Member, following: int) -> str:

@@ -7,6 +7,7 @@ import unicodedata
 from typing import List, Set
 
 READERS_DIFFER = "readers differ on "  # how a note begins that says so of a member or of the whole container
+_ENDS = (".", " ")
 _STEP = re.compile(r"[/\\]")
 
 
@@ -34,5 +35,8 @@ def differing(name: str, reason: str) -> str:
 
 
 def folded(path: str) -> str:
-    """Returns what a path has in common with those that lead to the same file where capitals and forms of characters do not count."""
+    """Returns what a path has in common with those that lead to the same file where capitals, forms of characters, and dots and blanks at the end of
+    a name do not count."""
+    if path.endswith(_ENDS) or "./" in path or " /" in path:
+        path = "/".join(step.rstrip(". ") for step in path.split("/"))
     return unicodedata.normalize("NFC", unicodedata.normalize("NFC", path).casefold())

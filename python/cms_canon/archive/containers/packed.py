@@ -23,7 +23,7 @@ from .found import Class, Content, Found, Pieces, State
 from .names import differing, path_of
 from .replaced import Replaced
 from .sources import MOST_IN_MEMORY, PIECE, Budget, Ended, Source, TooLarge, TooMuch, in_memory
-from .tar_headers import are_odd_values, is_odd
+from .tar_headers import are_odd_values, is_odd, suit
 
 Search = Callable[[Source], Iterator[Found]]
 
@@ -212,17 +212,19 @@ class _Header(tarfile.TarInfo):
     def _proc_member(self, file: tarfile.TarFile) -> tarfile.TarInfo:
         if len(file.pax_headers) > len(_KEPT):  # tarfile would go through all of them for each member
             file.pax_headers = {key: file.pax_headers[key] for key in file.pax_headers.keys() & _KEPT}
+        values = b""
         if self.type in _HEADERS_WITH_VALUES:
             if not 0 <= self.size <= LONGEST_HEADER:
                 raise Damaged("a header is too long")
             file.fileobj.take(_TIMES_A_HEADER * self.size)
-            self.is_odd |= are_odd_values(self.type, file.fileobj.peek(self.size))
+            values = file.fileobj.peek(self.size)
+            self.is_odd |= are_odd_values(self.type, values)
         if self.type == tarfile.GNUTYPE_SPARSE:
             raise Damaged("a member is sparse")
         member: Any = super()._proc_member(file)
         if member is not self:
             member.before += self.type
-            member.is_odd |= self.is_odd or member.before not in _HEADERS_BEFORE
+            member.is_odd |= self.is_odd or member.before not in _HEADERS_BEFORE or not suit(self.type, values, member)
         return member
 
     def _proc_gnusparse_10(self, *_) -> None:

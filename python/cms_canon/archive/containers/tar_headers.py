@@ -7,7 +7,6 @@ import tarfile
 from typing import Dict, Iterator, Tuple
 
 LINKS = (tarfile.LNKTYPE, tarfile.SYMTYPE)
-FILES = (tarfile.REGTYPE, tarfile.AREGTYPE, tarfile.CONTTYPE)
 _WITHOUT_OCTETS = (*LINKS, tarfile.DIRTYPE, tarfile.CHRTYPE, tarfile.BLKTYPE, tarfile.FIFOTYPE)
 _LONG = (tarfile.GNUTYPE_LONGNAME, tarfile.GNUTYPE_LONGLINK)
 _OF_ALL = tarfile.XGLTYPE
@@ -41,7 +40,8 @@ def is_odd(header: bytes) -> bool:
         return True
     if kind in _WITHOUT_OCTETS:
         return header[124:136].strip(b" 0\0") != b""
-    return not _is_name(header[_PREFIX]) or kind in FILES and header[:100].rstrip(b"\0").endswith(b"/")
+    name = header[:100].rstrip(b"\0")
+    return not _is_name(header[_PREFIX]) or not name or name.endswith(b"/")
 
 
 def _records_of(octets: bytes) -> Iterator[Tuple[str, bytes]]:
@@ -63,6 +63,25 @@ def _is_plain_value(key: str, value: bytes) -> bool:
         return _PLAIN_KEY.match(key) is not None
     value.decode("utf-8")
     return bool(value) and b"\0" not in value if key in _NAMES else True
+
+
+def _names_of(kind: bytes, octets: bytes) -> Dict[str, bytes]:
+    """Returns what a header of this kind says of the name, the target and the size of the next member, as far as it can be read."""
+    if kind in _LONG:
+        return {"path" if kind == tarfile.GNUTYPE_LONGNAME else "linkpath": octets.rstrip(b"\0")}
+    found: Dict[str, bytes] = {}
+    try:
+        found.update((key, value) for key, value in _records_of(octets) if key in _NAMES)
+    except ValueError:  # for which it is odd
+        pass
+    return found
+
+
+def suit(kind: bytes, octets: bytes, member: tarfile.TarInfo) -> bool:
+    """Whether what a header of this kind says is usual for the member that follows it: only folders end in a slash, and only files have a size."""
+    said = _names_of(kind, octets)
+    is_named_well = member.isdir() or not said.get("path", b"").endswith(b"/")
+    return is_named_well and (member.type not in _WITHOUT_OCTETS or not said.get("size", b"").strip(b"0"))
 
 
 def are_odd_values(kind: bytes, octets: bytes) -> bool:
