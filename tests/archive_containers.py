@@ -888,13 +888,13 @@ def judge_boxes(archive) -> None:
 
 
 def octets_read(archive, path: Path) -> Tuple[int, float, int]:
-    """Returns how many octets are taken of the budget of a file, how long it takes, and how many places are said."""
+    """Returns how many octets are taken of the budget of a file, how long a processor takes, and how many places are said."""
     budgets, make = [], archive.sources.Budget
-    begin = time.monotonic()
+    begin = time.process_time()
     with mock.patch.object(archive.files, "Budget", lambda size: budgets.append(make(size)) or budgets[-1]):
         places = sum(1 for it in archive.files.found_in_path(str(path)) if archive.judging.judged(it))
     (budget,) = budgets
-    return budget._most - budget._octets, time.monotonic() - begin, places
+    return budget._most - budget._octets, time.process_time() - begin, places
 
 
 def judge_hostile(archive, folder: Path) -> None:

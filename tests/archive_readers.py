@@ -669,6 +669,8 @@ def zip_tricks(make: Maker) -> Dict[str, Trick]:
         "steps.zip": Trick(Zip([*plain, Member(b"x/../doc", OTHER)]).written(), "doc.p7s", unclear, differ),
         "capitals.zip": Trick(Zip([*plain, Member(b"DOC", OTHER)]).written(), "doc.p7s", FITS, "on some file systems"),
         "link.zip": Trick(Zip([link, signature]).written(), "doc.p7s", unclear, "symbolic link"),
+        "descriptor.zip": Trick(Zip([Member(b"doc", DOCUMENT, flags=0x808, local={"extra": b"\1\0\x10\0" + bytes(16)}), signature]).written(), "doc.p7s",
+                                unclear, "no descriptor"),
         "no end.zip": Trick(Zip([unended, signature]).written(), "doc.p7s", "damaged", "no end"),
         "device.zip": Trick(Zip([replace(doc, listed={"mode": 0xFFA4 << 16}), signature]).written(), "doc.p7s", unclear, "it is no file"),
         "attached.zip": Trick(Zip([Member(b"a.p7m", make.cms(DOCUMENT, "-nodetach")), Member(b"a.p7m", OTHER, is_listed=False)]).written(), "a.p7m",

@@ -113,6 +113,8 @@ class _Member(NamedTuple):
     data: int
     end: int
     odd: str = ""
+    has_64: bool = False
+    """Whether its header says that a descriptor after it has numbers of 64 bits."""
 
 
 class _Headers:
@@ -135,19 +137,20 @@ class _Headers:
         _, _, flags, method, _, _, crc, packed, unpacked, name, extra = _LOCAL.unpack(header)
         more = self.read(begin + _LOCAL.size, name + extra)
         data = begin + _LOCAL.size + name + extra
+        has_64 = any(kind == _NUMBERS for kind, _ in _extras(more[name:]))
         sizes = _with_64((unpacked, packed), more[name:])
         known = (info.CRC, info.file_size, info.compress_size)
         is_same = all(number == other or flags & _DESCRIBED and not number for number, other in zip((crc, *sizes), known))
         is_same = is_same and (flags ^ info.flag_bits) & _FLAGS == 0 and method == info.compress_type and more[:name] == raw
         is_same = is_same and not info.volume and _unicode_paths(more[name:]) <= _unicode_paths(info.extra) | {raw}
-        return _Member(info, begin, data, data + info.compress_size, "" if is_same else "its two headers differ")
+        return _Member(info, begin, data, data + info.compress_size, "" if is_same else "its two headers differ", has_64)
 
     def odd_end(self, member: _Member, following: int) -> str:
         """Returns why some readers may see another end of a member than that before what follows it; empty if none does."""
         info = member.info
         if not info.flag_bits & _DESCRIBED:
             return "" if member.end == following else "other octets lie between it and what follows"
-        if not _is_descriptor(self.read(member.end, min(following - member.end, 25)), info):
+        if not _is_descriptor(self.read(member.end, min(following - member.end, 25)), info, member.has_64):
             return "no descriptor lies between it and what follows"
         if info.compress_type != zipfile.ZIP_DEFLATED:
             return "its header does not say where it ends"
@@ -176,12 +179,12 @@ class _Headers:
         return False
 
 
-def _is_descriptor(octets: bytes, info: zipfile.ZipInfo) -> bool:
-    """Whether octets are the descriptor that follows a member, with or without a mark, with sizes of 32 or of 64 bits."""
+def _is_descriptor(octets: bytes, info: zipfile.ZipInfo, has_64: bool) -> bool:
+    """Whether octets are the descriptor that follows a member, with or without a mark."""
     if len(octets) in (16, 24) and octets.startswith(b"PK\7\x08"):
         octets = octets[4:]
-    form = {12: "<3L", 20: "<L2Q"}.get(len(octets))
-    return form is not None and struct.unpack(form, octets) == (info.CRC, info.compress_size, info.file_size)
+    form = "<L2Q" if has_64 else "<3L"
+    return len(octets) == struct.calcsize(form) and struct.unpack(form, octets) == (info.CRC, info.compress_size, info.file_size)
 
 
 def _is_apk_block(octets: bytes) -> bool:
