@@ -681,6 +681,8 @@ def zip_tricks(make: Maker) -> Dict[str, Trick]:
         "dots at the end.zip": Trick(Zip([*plain, Member(b"doc. ", OTHER)]).written(), "doc.p7s", FITS, "on some file systems"),
         "capitals.jar": Trick(Zip([*members, Member(b"a.class", OTHER)]).written(), block, "fits, but covers only some files", "on some file systems"),
         "signed.apk": Trick(Zip(said, gap=apk_block(0x7109871A, 0xF05368C0)).written(), block, FITS, "an APK signing block of 64 octets"),
+        "aligned.apk": Trick(Zip(said, gap=bytes(100) + apk_block(0x7109871A, 0xF05368C0)).written(), block, FITS, "an APK signing block of 64 octets"),
+        "not aligned.apk": Trick(Zip(said, gap=b"\0\1" + apk_block(0x7109871A, 0xF05368C0)).written(), block, unclear, differ),
         "stripped.apk": Trick(Zip(said).written(), block, unclear, "signature of scheme 2 and 3, and there is none"),
         "half stripped.apk": Trick(Zip(said, gap=apk_block(0x7109871A)).written(), block, unclear, "signature of scheme 3, and there is none"),
     }

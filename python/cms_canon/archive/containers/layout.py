@@ -20,6 +20,7 @@ from .sources import PIECE, Budget
 END_MAGIC, ENTRY_MAGIC, LOCAL_MAGIC = b"PK\5\6", b"PK\1\2", b"PK\3\4"
 LOCATORS = 76  # octets between the list of members and the end, if numbers have 64 bits
 _LONGEST_END = 65_600  # octets of the end with its comment
+_ALIGNED = 4096  # octets at whose multiples an APK signing block may begin
 _LONGEST_BLOCK = 16 << 20  # octets of an APK signing block
 _END = struct.Struct("<4s4H2LH")
 _LOCATOR_64 = struct.Struct("<4sLQL")
@@ -323,7 +324,10 @@ def _odd_members(headers: _Headers, end: End, infos: Sequence[zipfile.ZipInfo]) 
     block = _apk_block(headers, end, members)
     if headers.has_header(0, members[0].begin if members else end.list_begin):
         return "what lies before its first member", block
-    following = [it.begin for it in members[1:]] + [end.list_begin - len(block)]
+    begin = end.list_begin - len(block)
+    if block and 0 < begin - members[-1].end < _ALIGNED and not any(headers.read(members[-1].end, begin - members[-1].end)):
+        begin = members[-1].end  # apksigner writes zeros before the block
+    following = [it.begin for it in members[1:]] + [begin]
     for member, begin in zip(members, following):
         if odd := member.odd or headers.odd_end(member, begin):
             return f"{member.info.filename}: {odd}", block
