@@ -699,7 +699,7 @@ def judge_limits(archive, folder: Path) -> None:
         ("too many members", many, mock.patch.object(archive.zips, "MOST_IN_ZIP", 8), left, "", "", 3),
         ("bombs in a zip", zips, mock.patch.object(sources, "FREE", 200 << 20), large, "", "", None),
         ("a bomb in a tar", tar, mock.patch.object(sources, "FREE", 1 << 20), large, "", "octets would be read", None),
-        ("a tar of too many members", members, mock.patch.object(sources, "MOST_MEMBERS", 10), large, "", "", 11),
+        ("a tar of too many members", members, mock.patch.multiple(sources, MOST_MEMBERS=10, OCTETS_OF_A_MEMBER=1 << 30), large, "", "", 11),
     ):
         with limit:
             came, facts = said_in(archive, folder, name, octets)
@@ -889,13 +889,13 @@ def judge_boxes(archive) -> None:
 
 
 def octets_read(archive, path: Path) -> Tuple[int, float, int]:
-    """Returns how many octets are taken of the budget of a file, how long it takes, and how many places are said."""
+    """Returns how many octets are taken of the budget of a file, how long a processor takes, and how many places are said."""
     budgets, make = [], archive.sources.Budget
-    begin = time.monotonic()
+    begin = time.process_time()
     with mock.patch.object(archive.files, "Budget", lambda size: budgets.append(make(size)) or budgets[-1]):
         places = sum(1 for it in archive.files.found_in_path(str(path)) if archive.judging.judged(it))
     (budget,) = budgets
-    return budget._most - budget._octets, time.monotonic() - begin, places
+    return budget._most - budget._octets, time.process_time() - begin, places
 
 
 def judge_hostile(archive, folder: Path) -> None:

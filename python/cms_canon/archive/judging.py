@@ -465,7 +465,7 @@ def _with_countersigned(state: State, message: cms_canon.Message) -> Tuple[State
 
 
 def _note_of(found: Found) -> str:
-    return "; ".join(filter(None, (found.content.note if found.content else "", found.note)))
+    return "; ".join(filter(None, dict.fromkeys((found.content.note if found.content else "", found.note))))
 
 
 def _where(found: Found, message: cms_canon.Message, is_token: bool) -> Optional[str]:

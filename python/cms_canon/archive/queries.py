@@ -11,6 +11,7 @@ import sqlalchemy as sa
 
 from .containers.found import Class, State
 from .containers.manifests import WEAK_ALONE
+from .containers.names import READERS_DIFFER
 from .reading import Row
 from .store import FILES, SIGNERS, TIMES, Store
 
@@ -55,7 +56,7 @@ def changed(store: Store) -> Iterator[Row]:
 
 
 def checked(store: Store, all_of_them: bool) -> Iterator[Row]:
-    """Gives the messages, or only those that are not said to fit or break a rule, or with a token that does not fit.
+    """Gives the messages, or only those that are not said to fit, on which readers differ, that break a rule, or with a token that does not fit.
 
     `wrong_times` is how many tokens do not fit, of the message itself and of those in unsigned attributes.
     """
@@ -63,7 +64,8 @@ def checked(store: Store, all_of_them: bool) -> Iterator[Row]:
     of_message = (TIMES.c.path == FILES.c.path) & (TIMES.c.member == FILES.c.member) & (TIMES.c.state == State.DIFFERS.value)
     wrong = sa.select(sa.func.count()).select_from(TIMES).where(of_message).correlate(FILES).scalar_subquery()
     is_right = (sa.func.coalesce(FILES.c.verdict, "") != "wrong") & (wrong == 0)
-    is_well = (FILES.c.state == State.FITS.value) & (FILES.c.findings == "") & is_right
+    is_one = sa.not_(sa.func.coalesce(FILES.c.note, "").contains(READERS_DIFFER))
+    is_well = (FILES.c.state == State.FITS.value) & (FILES.c.findings == "") & is_right & is_one
     asked = is_message if all_of_them else is_message & sa.not_(sa.func.coalesce(is_well, False))
     return store.asked(sa.select(FILES, wrong.label("wrong_times")).where(asked).order_by(FILES.c.path, FILES.c.member))
 
