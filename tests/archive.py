@@ -424,7 +424,7 @@ def judge_absent(home, folder, whole, url):
     away = folder.with_name("away")
     folder.rename(away)
     said = command_says(home, "index", folder, home / "pipe", "", "--store", url, status=1)
-    count_if("what is not there", said.count("there is no file or folder of this name") == 3 and store_of(url) == whole, said)
+    count_if("what is not there", said.count("there is no file or folder of this name") == 2 and "pipe: it is a FIFO" in said and store_of(url) == whole, said)
     away.rename(folder)
     for store in ("sqlite:////no/folder/index.db", "nonsense", "postgresql://host:port/name", f"sqlite:///{home}/none.db"):
         said = command_says(home, "refusals", "--store", store, status=1)

@@ -342,7 +342,7 @@ def pdfs(make) -> Dict[str, Case]:
         "sha1.pdf": in_places(sha1, FITS), "large.pdf": in_places(large, FITS),
         "pkcs1.pdf": Case(pkcs1, "container without message", others={place_of(pkcs1): "other signed format"}),
         "hole.pdf": Case(hole, "container without message", others={place_of(hole): "damaged"}),
-        "prepared.pdf": Case(revised(b"", 0, "adbe.pkcs7.detached"), "container without message", others={"ByteRange": "damaged"}),
+        "prepared.pdf": Case(revised(b"", 0, "adbe.pkcs7.detached"), "container without message", others={"signature in S0": "damaged"}),
     }
     cases.update(hidden_pdfs(make, one))
     if tally.has_package("pikepdf"):
@@ -364,7 +364,7 @@ def hidden_pdfs(make, one: bytes) -> Dict[str, Case]:
     many = one + b"".join(b"%%/ByteRange [0 %d %d %d]\n" % (hole, end, it) for it in range(200))  # more for one hole than are read
     more = {f"{place} to {end + it}": DIFFERS for it in range(99)}
     return {
-        "late.pdf": Case(b"\n\n" + one, "container without message", others={place: "damaged"}),
+        "late.pdf": Case(b"\n\n" + one, "container", {f"signature at {hole + 2}": PARTLY}),
         "head alone.pdf": in_places(alone, NO_REVISION),
         "comment.pdf": Case(one + noted, "container", {place: EARLIER, f"{place} to {end + 5}": DIFFERS}),
         "six.pdf": Case(six, "container without message", others={"ByteRange": "damaged"}),
@@ -549,7 +549,8 @@ def apks(make) -> Dict[str, Case]:
     signed = (make.folder / "signed.apk").read_bytes()
     changed = zipped({**unzipped(signed), "classes.dex": b"other"})
     block = next(it for it in unzipped(signed) if it.endswith(".RSA"))
-    return {"signed.apk": Case(signed, "container", {block: NO_DIGEST}), "changed.apk": Case(changed, "container", {block: DIFFERS})}
+    of_block = {"APK signing block": "other signed format"}
+    return {"signed.apk": Case(signed, "container", {block: NO_DIGEST}, others=of_block), "changed.apk": Case(changed, "container", {block: DIFFERS})}
 
 
 def packed(make) -> Dict[str, Case]:
@@ -698,7 +699,7 @@ def judge_limits(archive, folder: Path) -> None:
         ("too many members", many, mock.patch.object(archive.zips, "MOST_IN_ZIP", 8), left, "", "", 3),
         ("bombs in a zip", zips, mock.patch.object(sources, "FREE", 200 << 20), large, "", "", None),
         ("a bomb in a tar", tar, mock.patch.object(sources, "FREE", 1 << 20), large, "", "octets would be read", None),
-        ("a tar of too many members", members, mock.patch.object(sources, "MOST_MEMBERS", 10), large, "", "", 11),
+        ("a tar of too many members", members, mock.patch.multiple(sources, MOST_MEMBERS=10, OCTETS_OF_A_MEMBER=1 << 30), large, "", "", 11),
     ):
         with limit:
             came, facts = said_in(archive, folder, name, octets)
@@ -888,13 +889,13 @@ def judge_boxes(archive) -> None:
 
 
 def octets_read(archive, path: Path) -> Tuple[int, float, int]:
-    """Returns how many octets are taken of the budget of a file, how long it takes, and how many places are said."""
+    """Returns how many octets are taken of the budget of a file, how long a processor takes, and how many places are said."""
     budgets, make = [], archive.sources.Budget
-    begin = time.monotonic()
+    begin = time.process_time()
     with mock.patch.object(archive.files, "Budget", lambda size: budgets.append(make(size)) or budgets[-1]):
         places = sum(1 for it in archive.files.found_in_path(str(path)) if archive.judging.judged(it))
     (budget,) = budgets
-    return budget._most - budget._octets, time.monotonic() - begin, places
+    return budget._most - budget._octets, time.process_time() - begin, places
 
 
 def judge_hostile(archive, folder: Path) -> None:

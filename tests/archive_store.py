@@ -75,7 +75,10 @@ def judge_questions(home, archive, folder, place):
     count_same("check", [(*it[:2], it[-1]) for it in lines], [("does not fit", "F7 signer 0 message digest differs", f"{folder}/wrong.p7s")])
     count_same("check --all", len(said_of("check --all", "file", status=1)), 8)
     count_same("algorithms --weak", said_of("algorithms --weak", "file"), [("weak.p7s",)])
-    count_same("algorithms", said_of("algorithms", "digest", "bits", "signers", "is_weak"), [("sha1", 1024, 1, True), ("sha256", 2048, 7, False)])
+    count_same("algorithms", said_of("algorithms", "of", "digest", "bits", "signers", "is_weak"), [
+        ("certificate", None, None, 8, False), ("signer", "sha1", 1024, 1, True), ("signer", "sha256", 2048, 7, False),
+        ("time-stamp", "sha256", None, 1, False),
+    ])
     count_same("times", said_of("times", "file", "state", "policy"), [("doc.tst", "fits", "1.2.3.4")])
     signers = dict(said_of("signers", "file", "subject"))
     count_same("signers", [signers[it] for it in ("weak.p7s", "doc.tst", f"one.pdf!{place}")], ["CN=Weak", "CN=TSA", "CN=Signer"])
@@ -299,10 +302,10 @@ def judge_migration(home, folder):
     count_same("a store of 0.4.0 that is asked", came, {"doc.bin.p7s": None, "doc.tst": None, "q.tsq": None})
     command(home, "index", folder, "--store", old)
     count_same("a store of 0.4.0 that is indexed", of_first(old), FIRST_STORE_SAYS)
-    asked(old, "UPDATE about SET value = '4' WHERE name = 'schema'")
+    asked(old, "UPDATE about SET value = '5' WHERE name = 'schema'")
     for words in (("check",), ("index", folder)):
         said = command_says(home, *words, "--store", old, status=1)
-        count_if(f"a newer store, {words[0]}", is_line(said, "tables of version 4"), said)
+        count_if(f"a newer store, {words[0]}", is_line(said, "tables of version 5"), said)
     asked(old, "UPDATE about SET value = 'many' WHERE name = 'schema'")
     said = command_says(home, "check", "--store", old, status=1)
     count_same("a version that is no number", said, "Error: the store says a version of its tables that is no number\n")
@@ -395,7 +398,7 @@ def judge_replaced(home, archive, make):
     os.mkfifo(folder / "fifo.p7s")
     (folder / "link.p7s").symlink_to("/etc/hostname")
     errors = [row["error"] for part in archive.reading.parts_of(entries) for row in part.rows]
-    count_same("files that are replaced after they were listed", errors, ["it is not a regular file", "Too many levels of symbolic links"])
+    count_same("files that are replaced after they were listed", errors, ["it is a FIFO, and not a regular file", "Too many levels of symbolic links"])
     said = command_says(home, "export", "--to", home / "replaced copies", "--store", "replaced.db", status=1)
     count_same("export of files that were replaced", sorted(line.rpartition(": ")[2] for line in said.splitlines()), sorted(errors))
     said = command_says(home, "index", folder, "--store", "replaced.db")
@@ -518,7 +521,7 @@ def judge_names(home, folder, make):
     count_same("convert of a long name", [it.name for it in (home / "converted names").iterdir()], [long])
     os.mkfifo(names / "fifo")
     said = command_says(home, "same", names / "fifo", "--store", "asked.db", status=1)
-    count_same("same of a FIFO", said, f"Error: {names}/fifo: it is not a regular file\n")
+    count_same("same of a FIFO", said, f"{names}/fifo: it is a FIFO, and not a regular file\n")
     came = [Path(line.split("\t")[0]).name for line in command(home, "same", folder / "copy.p7s", "--store", "asked.db").splitlines()]
     count_same("same", came, ["copy of it.p7s", "copy.p7s"])
     said = command(home, "check", "--all", "--json", "--store", "asked.db", status=1)

@@ -46,6 +46,7 @@ Provides-Extra: archive
 Requires-Dist: click >=8.1; extra == "archive"
 Requires-Dist: cryptography >=38; extra == "archive"
 Requires-Dist: zstandard >=0.20; extra == "archive"
+Requires-Dist: pikepdf >=6; extra == "archive"
 Requires-Dist: tqdm >=4.64; extra == "archive"
 Requires-Dist: SQLAlchemy >=1.4.40; extra == "archive"
 Requires-Dist: jinja2 >=3.1; extra == "archive"

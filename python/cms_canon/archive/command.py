@@ -20,6 +20,7 @@ from sqlalchemy.exc import SQLAlchemyError
 import cms_canon
 
 from . import digests, exporting, loading, queries, verifying
+from .containers.files import kind_of
 from .containers.found import State as DigestState
 from .digests import NoDigests
 from .cluster import NoCluster
@@ -148,9 +149,16 @@ def _end_if_missing(paths: Sequence[str]) -> None:
     """Ends the command with status 1 if not all paths are there."""
     missing = [path for path in paths if not is_there(path)]
     for path in missing:
-        click.echo(f"{text_of(path)}: there is no file or folder of this name", err=True)
+        click.echo(f"{text_of(path)}: {_why_missing(path)}", err=True)
     if missing:
         sys.exit(1)
+
+
+def _why_missing(path: str) -> str:
+    try:
+        return f"it is {kind_of(os.stat(path).st_mode)}, and no file or folder"
+    except OSError:
+        return "there is no file or folder of this name"
 
 
 def _line_of(error: Exception) -> Optional[str]:
@@ -337,19 +345,32 @@ def signers_command(url: str, wait: Optional[float], form: Optional[str]) -> Non
 
 
 @main.command("algorithms")
-@click.option("--weak", is_flag=True, help="List the signers that stand on MD5, SHA-1, or keys of RSA or DSA below 2,048 bits.")
+@click.option("--weak", is_flag=True, help="List what stands on MD5, SHA-1, or keys of RSA or DSA below 2,048 bits.")
 @_store
 @_wait
 @_json
 @_csv
 def algorithms_command(weak: bool, url: str, wait: Optional[float], form: Optional[str]) -> None:
-    """List on which algorithms and keys signers stand, and how many each."""
+    """List on which algorithms and keys signers, certificates, time-stamps and manifests stand, and how many each.
+
+    Of certificates these are the algorithms by which they are signed, and of manifests only what they compare by MD5 or SHA-1 alone.
+    """
     store = Store(url, wait=wait)
     columns = ("digest", "signature", "key", "bits")
     if weak:
-        _write(_with_name(queries.signers(store, only_weak=True)), form, (*columns, "number", "file"))
+        _write(_with_name(queries.weak(store)), form, ("of", *columns, "number", "file"))
     else:
-        _write(queries.algorithms(store), form, ("signers", *columns, "is_weak"))
+        _write(queries.algorithms(store), form, ("signers", "of", *columns, "is_weak"))
+
+
+@main.command("others")
+@_store
+@_wait
+@_json
+@_csv
+def others_command(url: str, wait: Optional[float], form: Optional[str]) -> None:
+    """List what is signed by another format, as XAdES or OpenPGP, and what is not looked into, as 7z."""
+    _write(_with_name(queries.others(Store(url, wait=wait))), form, ("what", "form", "note", "file"))
 
 
 @main.command("times")
@@ -369,13 +390,17 @@ def times_command(url: str, wait: Optional[float], form: Optional[str]) -> None:
 @_json
 @_csv
 def same_command(file: str, url: str, wait: Optional[float], form: Optional[str]) -> None:
-    """List the files that are the same message as FILE."""
+    """List the files that are the same message as one of FILE, whatever that keeps it in."""
     store = Store(url, wait=wait)
-    try:
-        rows = queries.same(store, sys.stdin.buffer.read() if file == "-" else exporting.octets_of(file))
-    except (OSError, cms_canon.Refused) as why:
-        raise click.ClickException(f"{shown(file)}: {why}")
-    _write(_with_name(rows), form, ("file", "length"))
+    messages = list(exporting.digests_in(file, sys.stdin.buffer.read() if file == "-" else None))
+    for it in messages:
+        if it.why_not is not None:
+            click.echo(f"{shown(it.name)}: {it.why_not}", err=True)
+    if not messages:
+        click.echo(f"{shown(file)}: there is no message", err=True)
+    digests_found = dict.fromkeys(it.text for it in messages if it.why_not is None)
+    _write(_with_name(row for digest in digests_found for row in queries.same(store, digest)), form, ("file", "length"))
+    sys.exit(0 if messages and all(it.why_not is None for it in messages) else 1)
 
 
 @main.command("digests")

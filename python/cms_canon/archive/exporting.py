@@ -7,20 +7,22 @@ import os
 from itertools import groupby
 from pathlib import Path
 from secrets import token_hex
-from typing import Callable, Dict, Iterator, NamedTuple, Optional
+from typing import Callable, Dict, Iterable, Iterator, NamedTuple, Optional
 
 import sqlalchemy as sa
 
 import cms_canon
 
-from .containers.files import opened
+from .containers.finder import found_in
 from .containers.found import Class
-from .containers.sources import MOST_IN_MEMORY
+from .containers.sources import Budget, in_memory
+from .folders import path_named_by
 from .queries import name_of
-from .reading import Entry, Item, items_of, name_of_text, text_of
+from .reading import NO_PATH, TOO_LONG, Entry, Item, is_cut, items_of, text_of
 from .store import FILES, Store
 from .walking import entry_of
 
+_MAY_BE = (Class.MESSAGE, Class.DAMAGED, Class.TOO_LARGE, Class.UNREADABLE)
 MOST_OF_A_NAME = 255  # octets of the name of a file, as file systems take them
 
 
@@ -76,8 +78,10 @@ def _copy(item: Item, digest: str, file: Path) -> Optional[str]:
 
 def _export_file(path: str, digests: Dict[str, str], folder: Path) -> Iterator[Copied]:
     """Writes the DER of these messages of a file, the empty name being the file itself."""
-    outcomes: Dict[str, Optional[str]] = dict.fromkeys(digests, "it is not there any more")
-    for item in items_of(entry_of(name_of_text(path))):
+    named = path_named_by(path)
+    why = TOO_LONG if is_cut(path) else NO_PATH if named is None else "it is not there any more"
+    outcomes: Dict[str, Optional[str]] = dict.fromkeys(digests, why)
+    for item in items_of(entry_of(named)) if named is not None and not is_cut(path) else ():
         member = text_of(item.found.where)
         if outcomes.get(member):
             digest = digests[member]
@@ -102,18 +106,12 @@ def export(store: Store, folder: Path) -> Iterator[Copied]:
 def _messages_in(path: str) -> Iterator[Item]:
     """Gives the messages in a file, and what seems to be one or cannot be read."""
     for item in items_of(Entry(os.path.realpath(path), 0, 0, 0)):
-        if item.found.what in (Class.MESSAGE, Class.DAMAGED, Class.TOO_LARGE, Class.UNREADABLE):
+        if item.found.what in _MAY_BE:
             yield item
 
 
 def _name_of_item(path: str, item: Item) -> str:
     return f"{path}!{item.found.where}" if item.found.where else path
-
-
-def octets_of(path: str) -> bytes:
-    """Returns what is in a file, but not more than a message may have. Raises `OSError` if it is no regular file, which would be waited for."""
-    with opened(os.path.realpath(path)) as file:
-        return file.read(min(os.fstat(file.fileno()).st_size, MOST_IN_MEMORY))
 
 
 def _name_of_copy(name: str) -> str:
@@ -133,9 +131,20 @@ def convert(path: str, folder: Path) -> Iterator[Copied]:
             yield Copied(_name_of_item(path, item), None)
 
 
+def digests_in(path: str, octets: Optional[bytes]) -> Iterator[Copied]:
+    """Gives the SHA-256 of the DER of each message in a file, or in octets if they are given."""
+    given = None if octets is None else found_in(in_memory("", octets, Budget(len(octets))))
+    items = _messages_in(path) if given is None else (Item(Entry(path, 0, 0, 0), it) for it in given if it.what in _MAY_BE)
+    yield from _of_each(path, items, lambda der: hashlib.sha256(der).hexdigest())
+
+
 def shown_in(path: str, show: Callable[[bytes], str]) -> Iterator[Copied]:
     """Gives what `show` returns of the DER of each message in a file."""
-    for item in _messages_in(path):
+    return _of_each(path, _messages_in(path), show)
+
+
+def _of_each(path: str, items: Iterable[Item], show: Callable[[bytes], str]) -> Iterator[Copied]:
+    for item in items:
         name = _name_of_item(path, item)
         try:
             yield Copied(name, None, show(_der_of(item)))

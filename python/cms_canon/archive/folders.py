@@ -23,7 +23,7 @@ from .walking import entry_in, entry_of, is_reached
 
 FEW = 2000  # files of a folder that are one part; if there are four times as many, it is divided
 LARGE = 4 << 20  # octets of a file that is a part of its own
-NOT_THERE = (errno.ENOENT, errno.ENOTDIR, errno.ELOOP, errno.ENAMETOOLONG)  # errors of a path that is not there
+NOT_THERE = (errno.ENOENT, errno.ENOTDIR, errno.ELOOP)  # errors of a path that is not there
 KILLED = "a process that read it was killed, perhaps because memory ran out"
 REFUSED = "the store refused what was read of it"
 
@@ -51,6 +51,14 @@ def named_by(text: str) -> Optional[str]:
     except ValueError:
         return None
     return name if text_of(name, cuts=False) == text else None
+
+
+def path_named_by(text: str) -> Optional[str]:
+    """Returns the path that a store has as this text; None if it is none, or leads up, as a worker that lies may have it."""
+    path = named_by(text)
+    if path is None or not path.startswith("/") or "\0" in path or any(it in (".", "..") for it in path.split("/")):
+        return None
+    return path
 
 
 def path_of(part: Held) -> Optional[str]:
@@ -142,8 +150,10 @@ class Reader:
             if path is None or path in self._own or is_gone(path, part):
                 self._drop_all(outcome)
                 return []
-        except OSError:
-            return []  # what is stored below a folder that cannot be looked into is kept
+        except OSError as error:
+            if error.errno == errno.ENAMETOOLONG:  # which never changes, while what is stored below another folder that cannot be looked into is kept
+                self.put_error(outcome, "", str(path).rstrip("/"), why_of(error))
+            return []
         if part.name:
             return self._changed(outcome, [("", entry_of(path))])
         try:

@@ -12,7 +12,7 @@ import hashlib
 import warnings
 from dataclasses import dataclass, field
 from functools import lru_cache
-from typing import AbstractSet, Any, Dict, Iterable, Iterator, List, NamedTuple, Optional, Tuple
+from typing import AbstractSet, Any, Dict, FrozenSet, Iterable, Iterator, List, NamedTuple, Optional, Tuple
 
 from cryptography import x509
 from cryptography.hazmat.primitives.asymmetric import dsa, ec, rsa
@@ -65,6 +65,8 @@ class Signer(NamedTuple):
     """As `RSA` or the name of a curve."""
     bits: Optional[int] = None
     """Those of the key."""
+    certificate: Optional[str] = None
+    """The algorithm by which the certificate is signed."""
 
 
 class Time(NamedTuple):
@@ -119,6 +121,7 @@ class _Certificate(NamedTuple):
     not_after: Optional[str] = None
     key: Optional[str] = None
     bits: Optional[int] = None
+    signature: Optional[str] = None
 
 
 _NO_CERTIFICATE = _Certificate(b"", 0, None)
@@ -133,6 +136,13 @@ def _key_of(certificate: x509.Certificate) -> Tuple[Optional[str], Optional[int]
     if isinstance(key, ec.EllipticCurvePublicKey):
         return key.curve.name, key.key_size
     return type(key).__name__.strip("_").replace("PublicKey", ""), None
+
+
+def _signature_of(certificate: x509.Certificate) -> str:
+    """Returns the algorithm by which a certificate is signed, as `rsa-sha1`, also if the digest is in its parameters."""
+    name = _oid_name(certificate.signature_algorithm_oid.dotted_string)
+    hashed = certificate.signature_hash_algorithm
+    return f"{name}-{hashed.name}" if name == "rsa-pss" and hashed is not None else name
 
 
 def _certificate(octets: bytes) -> Optional[_Certificate]:
@@ -161,6 +171,7 @@ def _read_certificate(octets: bytes) -> Optional[_Certificate]:
         names = read.issuer.rfc4514_string(), read.subject.rfc4514_string()
         times = read.not_valid_before.isoformat() + "Z", read.not_valid_after.isoformat() + "Z"
         found = found._replace(issuer_text=names[0], subject=names[1], not_before=times[0], not_after=times[1])
+        found = found._replace(signature=_signature_of(read))
         key, bits = _key_of(read)
         return found._replace(key=key, bits=bits)
     except Exception:  # whatever `cryptography` raises for a certificate or a key that it does not take
@@ -225,6 +236,7 @@ def _signer(number: str, it: cms_canon.SignerInfo, certificates: List[_Certifica
         not_after=known.not_after,
         key=known.key,
         bits=known.bits,
+        certificate=known.signature,
     )
 
 
@@ -347,6 +359,36 @@ def _findings(octets: bytes, message: cms_canon.Message, content: Optional[Conte
     return [it for it in found if it.code not in (_F17, _F18)]
 
 
+# ---- verdicts
+
+_VERDICTS = {_F17: "wrong", _F18: "unknown"}
+
+
+class _Verified(NamedTuple):
+    """What the arithmetic says of the signatures by the certificates in the message. It says nothing of trust."""
+
+    verdict: Optional[str] = None
+    """Of all signatures; None if there are none, or none is verified."""
+    right: FrozenSet[int] = frozenset()
+    """The numbers of the signers that sign the content itself, without signed attributes, and are right."""
+    wrong: FrozenSet[int] = frozenset()
+    """Those of them that are wrong."""
+
+
+def _verified(octets: bytes, message: cms_canon.Message, content: Optional[Content]) -> _Verified:
+    """Verifies the signatures. If the content itself is signed and is not there, or too long to be handed over, nothing is known."""
+    own = frozenset(number for number, it in enumerate(message.signers) if it.signed_attributes is None)
+    given = None
+    if message.content is None and own:
+        if content is None or content.bound is State.UNREADABLE or content.length > cms_canon.LIMIT:
+            return _Verified(_VERDICTS[_F18])
+        given = b"".join(content.pieces)
+    found = [it for it in cms_canon.check(octets, content=given, verifier=verifier.by_certificates()) if it.code in _VERDICTS]
+    not_right = {it.signer for it in found}
+    wrong = frozenset(it.signer for it in found if it.code == _F17 and it.signer in own)
+    return _Verified(_VERDICTS[min(it.code for it in found)] if found else "right", own - not_right, wrong)
+
+
 # ---- the state
 
 
@@ -366,47 +408,49 @@ def _is_inside(message: cms_canon.Message, content: Content) -> bool:
     return digest_of(content.pieces, "sha256") == hashlib.sha256(inside).digest()
 
 
-def _lacks_digest(message: cms_canon.Message, codes: AbstractSet[int]) -> bool:
-    return _F6 in codes or any(it.signed_attributes is None for it in message.signers)
+def _lacks_digest(message: cms_canon.Message, codes: AbstractSet[int], right: AbstractSet[int]) -> bool:
+    """Whether no digest of a signer can be compared, unless its signature of the content itself is known to be right."""
+    return _F6 in codes or any(it.signed_attributes is None and number not in right for number, it in enumerate(message.signers))
 
 
-def _state_of_token(message: cms_canon.Message, codes: AbstractSet[int], bound: State) -> State:
+def _state_of_token(message: cms_canon.Message, codes: AbstractSet[int], bound: State, right: AbstractSet[int] = frozenset()) -> State:
     """Returns what is known of the digests of a token, and `bound` if all of them fit."""
     if not message.signers:
         return State.NO_SIGNATURE
     if codes & {_F7, _F14}:
         return State.DIFFERS
-    if _lacks_digest(message, codes) or codes & {_F9, _F11, _F13}:
+    if _lacks_digest(message, codes, right) or codes & {_F9, _F11, _F13}:
         return State.NO_DIGEST
     return State.UNKNOWN_DIGEST if _F8 in codes else bound
 
 
-def _state_of_signature(found: Found, message: cms_canon.Message, codes: AbstractSet[int]) -> State:
+def _state_of_signature(found: Found, message: cms_canon.Message, codes: AbstractSet[int], right: AbstractSet[int]) -> State:
     content = found.content
     if message.content is not None and found.is_detached and not (content is not None and _is_inside(message, content)):
         return State.DIFFERS if content is not None and content.is_due_inside else State.INSIDE
     if _F9 in codes:
         return State.NOT_FOUND
-    if _lacks_digest(message, codes):
+    if _lacks_digest(message, codes, right):
         return State.NO_DIGEST
     if _F8 in codes:
         return State.UNKNOWN_DIGEST
     return content.bound if content is not None else State.FITS
 
 
-def _state_of(found: Found, message: cms_canon.Message, kind: str, findings: List[cms_canon.Finding]) -> State:
-    """Returns what is known of the digests. It says that they fit only if each was compared with the document."""
+def _state_of(found: Found, message: cms_canon.Message, kind: str, findings: List[cms_canon.Finding], verified: _Verified) -> State:
+    """Returns what is known of the digests. It says that they fit only if each was compared with the document, or is not there and the
+    signature of the content itself was verified."""
     codes = {it.code for it in findings}
     content = found.content
     if not message.signers:
         return State.NO_SIGNATURE
-    if codes & {_F7, _F14} or (content is not None and content.bound is State.DIFFERS):
+    if codes & {_F7, _F14} or verified.wrong or (content is not None and content.bound is State.DIFFERS):
         return State.DIFFERS
     if content is not None and content.bound is State.UNREADABLE:
         return State.UNREADABLE
     if kind in ("token", "response"):
-        return _state_of_token(message, codes, State.NOT_FOUND if content is None else content.bound)
-    return _state_of_signature(found, message, codes)
+        return _state_of_token(message, codes, State.NOT_FOUND if content is None else content.bound, verified.right)
+    return _state_of_signature(found, message, codes, verified.right)
 
 
 def _with_countersigned(state: State, message: cms_canon.Message) -> Tuple[State, str]:
@@ -420,28 +464,14 @@ def _with_countersigned(state: State, message: cms_canon.Message) -> Tuple[State
     return state, ""
 
 
+def _note_of(found: Found) -> str:
+    return "; ".join(filter(None, dict.fromkeys((found.content.note if found.content else "", found.note))))
+
+
 def _where(found: Found, message: cms_canon.Message, is_token: bool) -> Optional[str]:
     if found.content is not None:
         return found.content.where
     return "inside" if not is_token and message.content is not None else None
-
-
-_VERDICTS = {_F17: "wrong", _F18: "unknown"}
-
-
-def _verdict(octets: bytes, message: cms_canon.Message, content: Optional[Content]) -> Optional[str]:
-    """Returns what the arithmetic says of the signatures by the certificates in the message; None if there are none. It says nothing of trust.
-
-    A signer without signed attributes signs the content itself. If that is not there, or too long to be handed over, it is not known.
-    """
-    given = None
-    if message.content is None and any(it.signed_attributes is None for it in message.signers):
-        if content is None or content.bound is State.UNREADABLE or content.length > cms_canon.LIMIT:
-            return _VERDICTS[_F18]
-        given = b"".join(content.pieces)
-    found = cms_canon.check(octets, content=given, verifier=verifier.by_certificates())
-    codes = {it.code for it in found} & set(_VERDICTS)
-    return _VERDICTS[min(codes)] if codes else "right"
 
 
 def _names(oids: List[str]) -> str:
@@ -456,11 +486,11 @@ def _judged_message(found: Found, octets: bytes, verifies: bool) -> Facts:
     findings = _findings(octets, message, found.content, is_token)
     signers = _some(_with_countersigners(message.signers))
     certificates = _certificates_of(message)
-    state, of_countersigners = _with_countersigned(_state_of(found, message, kind, findings), message)
+    verified = _verified(octets, message, found.content) if verifies and message.signers else _Verified()
+    state, of_countersigners = _with_countersigned(_state_of(found, message, kind, findings, verified), message)
     own = [_time("", message, state)] if is_token and signers else []
     times = own + _some(time for number, it in signers if it.unsigned_attributes for time in _attribute_times(number, it))
     of_times = next((f"token {it.number}: {it.state.value}" for it in times if it.number and it.state is State.DIFFERS), "")
-    of_content = found.content.note if found.content and found.content.note else found.note
     more = f" and {len(findings) - MOST_LISTED:,} more" if len(findings) > MOST_LISTED else ""
     return Facts(
         what=Class.MESSAGE,
@@ -470,11 +500,11 @@ def _judged_message(found: Found, octets: bytes, verifies: bool) -> Facts:
         content_type=None if message.content_type is None else _oid_name(message.content_type),
         content=_where(found, message, is_token),
         state=state,
-        note="; ".join(filter(None, (of_content, of_countersigners, of_times))),
+        note="; ".join(filter(None, (_note_of(found), of_countersigners, of_times))),
         findings="; ".join(map(str, findings[:MOST_LISTED])) + more,
         digests=_names([it.digest_algorithm.oid for _, it in signers]),
         signatures=_names([it.signature_algorithm.oid for _, it in signers]),
-        verdict=_verdict(octets, message, found.content) if verifies and message.signers else None,
+        verdict=verified.verdict,
         signers=[_signer(number, it, certificates) for number, it in signers],
         times=times,
         signer_count=None if message.signed_data is None else len(message.signers),
@@ -492,4 +522,4 @@ def judged(found: Found, verifies: bool = False) -> Facts:
         unread = Content(where, 0, (), State.UNREADABLE, f"{where}: {why_of(why)}")
         return judged(found.with_content(unread), verifies)
     except cms_canon.Refused as refused:
-        return Facts(what=Class.REFUSED, note=found.note, reason=refused.reason, name=refused.name, at=refused.at)
+        return Facts(what=Class.REFUSED, note=_note_of(found), reason=refused.reason, name=refused.name, at=refused.at)

@@ -10,7 +10,7 @@ import sqlalchemy as sa
 
 from . import guards
 from .containers.found import Class
-from .tables import ABOUT, LISTS, PLACES, SCHEMA, TABLES, Digest, PartState, columns_of, views
+from .tables import ABOUT, BY_DIGEST, LISTS, OF_PARTS, PLACES, SCHEMA, TABLES, Digest, PartState, columns_of, views
 
 LOCK = 5652_3161  # the number of the lock under which the tables are made
 _CONTROL = re.compile("[\1-\x1f\x7f-\x9f]")
@@ -56,6 +56,9 @@ def migrate(connection: sa.engine.Connection) -> None:
         if connection.dialect.name == "postgresql":
             guards.put_up(connection, are_there=True)
         return
+    if before == _LAST:
+        _renew(connection)
+        return
     if before:
         _put_aside(connection, before)
     for table in TABLES.sorted_tables:
@@ -65,13 +68,62 @@ def migrate(connection: sa.engine.Connection) -> None:
                 index.create(connection, checkfirst=True)
     if before:
         _take_over(connection)
-    for name, asked in views().items():
-        text = asked.compile(dialect=connection.dialect, compile_kwargs={"literal_binds": True})
-        connection.exec_driver_sql(f"CREATE VIEW {name} AS {str(text)}".replace("%", "%%" if connection.dialect.name == "postgresql" else "%"))
+    _make_views(connection)
     if connection.dialect.name == "postgresql":
         guards.put_up(connection)
     connection.execute(sa.delete(ABOUT))
     connection.execute(sa.insert(ABOUT), [{"name": "schema", "value": str(SCHEMA)}])
+
+
+def _make_views(connection: sa.engine.Connection) -> None:
+    for name, asked in views().items():
+        text = asked.compile(dialect=connection.dialect, compile_kwargs={"literal_binds": True})
+        connection.exec_driver_sql(f"CREATE VIEW {name} AS {str(text)}".replace("%", "%%" if connection.dialect.name == "postgresql" else "%"))
+
+
+# ---- the tables of the version before, which have the same names
+
+_LAST = 3
+
+
+def _renew(connection: sa.engine.Connection) -> None:
+    """Brings the tables of places up to date: they may lack columns, and values that their checks know. Their rows, and all else, are kept."""
+    for name in views():
+        connection.exec_driver_sql(f"DROP VIEW IF EXISTS {name}")
+    for table in OF_PARTS:
+        if connection.dialect.name == "postgresql":
+            _alter(connection, table)
+        else:
+            _copy_to_new(connection, table)
+    _make_views(connection)
+    if connection.dialect.name == "postgresql":
+        guards.put_up(connection, are_there=True)
+    connection.execute(sa.update(ABOUT).where(ABOUT.c.name == "schema").values(value=str(SCHEMA)))
+
+
+def _alter(connection: sa.engine.Connection, table: sa.Table) -> None:
+    """Adds the columns that a table lacks, and has it checked as it is now. The triggers of PostgreSQL and the rights stay with the table."""
+    there = {it["name"] for it in sa.inspect(connection).get_columns(table.name)}
+    for column in (it for it in table.columns if it.name not in there):
+        text = sa.schema.CreateColumn(column).compile(dialect=connection.dialect)
+        connection.exec_driver_sql(f"ALTER TABLE {table.name} ADD COLUMN {text}")
+    for check in sorted((it for it in table.constraints if isinstance(it, sa.CheckConstraint)), key=lambda it: str(it.name)):
+        connection.exec_driver_sql(f"ALTER TABLE {table.name} DROP CONSTRAINT IF EXISTS {check.name}")
+        connection.execute(sa.schema.AddConstraint(check))
+
+
+def _copy_to_new(connection: sa.engine.Connection, table: sa.Table) -> None:
+    """Makes a table anew, since SQLite changes no check, with the rows of the old one."""
+    there = [it["name"] for it in sa.inspect(connection).get_columns(table.name)]
+    has_index = any(it["name"] == BY_DIGEST.name for it in sa.inspect(connection).get_indexes(table.name))
+    connection.exec_driver_sql(f"DROP INDEX IF EXISTS {BY_DIGEST.name}" if has_index else "SELECT 1")
+    connection.exec_driver_sql(f"ALTER TABLE {table.name} RENAME TO old_{table.name}")
+    connection.execute(sa.schema.CreateTable(table))
+    names = ", ".join(connection.dialect.identifier_preparer.quote(it) for it in there if it in table.columns)
+    connection.exec_driver_sql(f"INSERT INTO {table.name} ({names}) SELECT {names} FROM old_{table.name}")
+    connection.exec_driver_sql(f"DROP TABLE old_{table.name}")
+    if has_index:
+        BY_DIGEST.create(connection)
 
 
 # ---- the tables of older releases
@@ -106,7 +158,7 @@ def _take_over(connection: sa.engine.Connection) -> None:
     for name, table in LISTS.items():
         other = _OLD["signers" if name == "signed_by" else name]
         if other in there:
-            _copy(connection, other, table, {}, {it.name for it in table.columns})
+            _copy(connection, other, table, {}, {it["name"] for it in sa.inspect(connection).get_columns(other)})
     for other in _OLD.values():
         connection.exec_driver_sql(f"DROP TABLE IF EXISTS {other}")
 

@@ -2,15 +2,16 @@
 
 from __future__ import annotations
 
-import hashlib
+from collections import Counter
+from enum import Enum
 from itertools import groupby
 from typing import Any, Iterator, List, NamedTuple
 
 import sqlalchemy as sa
 
-import cms_canon
-
 from .containers.found import Class, State
+from .containers.manifests import WEAK_ALONE
+from .containers.names import READERS_DIFFER
 from .reading import Row
 from .store import FILES, SIGNERS, TIMES, Store
 
@@ -30,9 +31,9 @@ def name_of(row: Row) -> str:
     return f"{row['path']}!{row['member']}" if row["member"] else str(row["path"])
 
 
-def same(store: Store, octets: bytes) -> Iterator[Row]:
-    """Gives the files that are the message which the octets are. Raises `cms_canon.Refused` if they are none."""
-    return store.rows(FILES.c.digest == hashlib.sha256(cms_canon.convert(octets)).hexdigest())
+def same(store: Store, digest: str) -> Iterator[Row]:
+    """Gives the files that are the message whose DER has this SHA-256."""
+    return store.rows(FILES.c.digest == digest)
 
 
 def duplicates(store: Store) -> Iterator[Group]:
@@ -55,7 +56,7 @@ def changed(store: Store) -> Iterator[Row]:
 
 
 def checked(store: Store, all_of_them: bool) -> Iterator[Row]:
-    """Gives the messages, or only those that are not said to fit or break a rule, or with a token that does not fit.
+    """Gives the messages, or only those that are not said to fit, on which readers differ, that break a rule, or with a token that does not fit.
 
     `wrong_times` is how many tokens do not fit, of the message itself and of those in unsigned attributes.
     """
@@ -63,7 +64,8 @@ def checked(store: Store, all_of_them: bool) -> Iterator[Row]:
     of_message = (TIMES.c.path == FILES.c.path) & (TIMES.c.member == FILES.c.member) & (TIMES.c.state == State.DIFFERS.value)
     wrong = sa.select(sa.func.count()).select_from(TIMES).where(of_message).correlate(FILES).scalar_subquery()
     is_right = (sa.func.coalesce(FILES.c.verdict, "") != "wrong") & (wrong == 0)
-    is_well = (FILES.c.state == State.FITS.value) & (FILES.c.findings == "") & is_right
+    is_one = sa.not_(sa.func.coalesce(FILES.c.note, "").contains(READERS_DIFFER))
+    is_well = (FILES.c.state == State.FITS.value) & (FILES.c.findings == "") & is_right & is_one
     asked = is_message if all_of_them else is_message & sa.not_(sa.func.coalesce(is_well, False))
     return store.asked(sa.select(FILES, wrong.label("wrong_times")).where(asked).order_by(FILES.c.path, FILES.c.member))
 
@@ -79,20 +81,77 @@ def is_weak(table: Any = SIGNERS.c) -> Any:
     return is_digest | is_signature | (table.key.in_(("RSA", "DSA")) & (table.bits < FEWEST_BITS))
 
 
-def signers(store: Store, only_weak: bool = False) -> Iterator[Row]:
+def signers(store: Store) -> Iterator[Row]:
     """Gives the signers and countersigners of the messages."""
-    return store.asked(_joined(SIGNERS, *([is_weak()] if only_weak else [])))
+    return store.asked(_joined(SIGNERS))
+
+
+class StandsOn(str, Enum):
+    """What stands on algorithms."""
+
+    SIGNER = "signer"
+    CERTIFICATE = "certificate"
+    TIME_STAMP = "time-stamp"
+    MANIFEST = "manifest"
+
+
+_ALGORITHMS = ("digest", "signature", "key", "bits")
+
+
+def is_weak_certificate(table: Any = SIGNERS.c) -> Any:
+    """Returns the condition that the certificate of a signer is signed with MD5 or SHA-1."""
+    return sa.or_(*(table.certificate.like(f"%-{it}") for it in WEAK_DIGESTS))
+
+
+def weak(store: Store) -> Iterator[Row]:
+    """Gives what stands on MD5, SHA-1 or a short key: signers, the signatures of their certificates, imprints of time-stamps, and manifests."""
+    for row in store.asked(_joined(SIGNERS, is_weak())):
+        yield {**row, "of": StandsOn.SIGNER.value}
+    for row in store.asked(_joined(SIGNERS, is_weak_certificate())):
+        yield {**row, "digest": None, "signature": row["certificate"], "key": None, "bits": None, "of": StandsOn.CERTIFICATE.value}
+    for row in store.asked(_joined(TIMES, TIMES.c.digest.in_(WEAK_DIGESTS))):
+        yield {**row, "signature": None, "key": None, "bits": None, "of": StandsOn.TIME_STAMP.value}
+    for row in store.rows(FILES.c.note.like("%compares by % alone%")):
+        for digest in _weak_in(row["note"]):
+            alone = {"digest": digest, "signature": None, "key": None, "bits": None, "number": "", "of": StandsOn.MANIFEST.value}
+            yield {"path": row["path"], "member": row["member"], **alone}
+
+
+def _weak_in(note: str) -> List[str]:
+    """Returns the weak digests by which a manifest or a signature file compares alone, as a note says it."""
+    return sorted({it for found in WEAK_ALONE.findall(note) for it in found if it})
 
 
 def algorithms(store: Store) -> Iterator[Row]:
-    """Gives which algorithms and keys signers stand on, and how many signers each."""
-    columns = (SIGNERS.c.digest, SIGNERS.c.signature, SIGNERS.c.key, SIGNERS.c.bits)
-    weak = sa.func.max(sa.case((is_weak(), 1), else_=0)).label("is_weak")
-    asked = sa.select(*columns, sa.func.count().label("signers"), weak).group_by(*columns).order_by(sa.func.count().desc(), *columns)
+    """Gives on which algorithms and keys signers, the signatures of certificates, imprints and weak manifests stand, and how many of each."""
+    columns = [SIGNERS.c[it] for it in _ALGORITHMS]
+    is_weak_one = sa.func.max(sa.case((is_weak(), 1), else_=0)).label("is_weak")
+    asked = sa.select(*columns, sa.func.count().label("signers"), is_weak_one).group_by(*columns).order_by(sa.func.count().desc(), *columns)
     for row in store.asked(asked):
-        yield {**row, "is_weak": bool(row["is_weak"])}
+        yield {**row, "is_weak": bool(row["is_weak"]), "of": StandsOn.SIGNER.value}
+    yield from _counted(store, SIGNERS.c.certificate, "signature", StandsOn.CERTIFICATE)
+    yield from _counted(store, TIMES.c.digest, "digest", StandsOn.TIME_STAMP)
+    manifests = Counter(it for row in store.rows(FILES.c.note.like("%compares by % alone%")) for it in _weak_in(row["note"]))
+    for digest, count in sorted(manifests.items()):
+        yield {**dict.fromkeys(_ALGORITHMS), "digest": digest, "signers": count, "is_weak": True, "of": StandsOn.MANIFEST.value}
+
+
+def _counted(store: Store, column: Any, name: str, of: StandsOn) -> Iterator[Row]:
+    counts = sa.select(column.label("algorithm"), sa.func.count().label("count")).where(column.is_not(None)).group_by(column)
+    asked = counts.order_by(sa.func.count().desc(), column)
+    for row in store.asked(asked):
+        is_weak_one = str(row["algorithm"]).rpartition("-")[2] in WEAK_DIGESTS
+        yield {**dict.fromkeys(_ALGORITHMS), name: row["algorithm"], "signers": row["count"], "is_weak": is_weak_one, "of": of.value}
 
 
 def times(store: Store) -> Iterator[Row]:
     """Gives the times that tokens vouch for, as messages and in unsigned attributes."""
     return store.asked(_joined(TIMES))
+
+
+_OTHERS = (Class.OTHER.value, Class.NOT_LOOKED_INTO.value)
+
+
+def others(store: Store) -> Iterator[Row]:
+    """Gives what is signed by another format, and what is not looked into."""
+    return store.rows(FILES.c.what.in_(_OTHERS), order=(FILES.c.what, FILES.c.form, FILES.c.path, FILES.c.member))

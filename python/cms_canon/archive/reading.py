@@ -2,8 +2,8 @@
 
 The row of a file comes after those of what is in it. A name is a text from which it can be read back, since neither database takes all
 octets; if it has more than 1,200 octets it is cut and ends with its SHA-256, since PostgreSQL refuses a key of more than 2,704. A row is
-kept as long as this version would store the same: it has the version of the library, and a number that is raised with each change of what
-is stored.
+kept as long as this version would store the same: it has a number that is raised with each change of the command or the library by which any
+file would get other rows.
 """
 
 from __future__ import annotations
@@ -29,9 +29,11 @@ from .judging import Facts, Signer, Time, judged
 Value = Union[str, int, bool, None]
 Row = Dict[str, Any]
 
-READER = 3  # raised with each change by which a file would get other rows
+READER = 4  # raised with each change of the command or the library by which a file would get other rows, and with no other
 MOST = (1 << 63) - 1  # the largest number that a store takes
 LONGEST = 1200  # octets of a name in a store: an index of PostgreSQL takes 2,704, a path and the name of a member together
+NO_PATH = "no path is named so"
+TOO_LONG = "its name is too long to be read back"
 SETTLED = 2_000_000_000  # nanoseconds: the clock of a file system may be as coarse
 MOST_BESIDE = 64 << 30  # octets of the document beside a file that are read for all messages in it
 CHUNK = 1000  # rows of one file that are handed over at once
@@ -41,7 +43,6 @@ _CUT = re.compile(r"(?<!\\)(?:\\\\)*\\\.\.\.[0-9a-f]{64}(?:/|\Z)")  # a backslas
 _FACTS = [it.name for it in fields(Facts) if it.name not in ("signers", "times", "signer_count")]
 _NO_FACTS = {it: getattr(Facts(Class.TEXT), it) for it in _FACTS}
 _ERRORS = (Class.UNREADABLE, Class.DAMAGED, Class.TOO_LARGE)
-INDEPENDENT = (Class.TEXT, Class.NO_CANDIDATE)  # of the library
 
 
 class Entry(NamedTuple):

@@ -52,6 +52,7 @@ CLASSES = {
     Class.CONTAINER.value: "files with such messages in them",
     Class.EMPTY.value: "files that could have such messages, and have none",
     Class.OTHER.value: "signed by another format, as XML signatures, OpenPGP or Authenticode",
+    Class.NOT_LOOKED_INTO.value: "not looked into: archives and documents of formats that are not read",
     Class.REFUSED.value: "refused",
     Class.DAMAGED.value: "damaged",
     Class.TOO_LARGE.value: "too large",

@@ -24,7 +24,7 @@ from .containers.found import Class
 from .guards import WORKER_LOCK
 from .opening import WORKERS_ENDING, NoStore, engine_of, is_sqlite
 from .processes import undisturbed
-from .reading import INDEPENDENT, READER
+from .reading import READER
 from .spool import Spool, store
 from .tables import ABOUT, IS_TAKEN, IS_TO_DO, MOST_TRIED, OF_PARTS, PARTS, PLACES, WORKERS, PartState
 from .versions import ABOUT_NAMES, OtherVersion, Version, own_version, version_noted
@@ -318,8 +318,7 @@ class Session:
         if not ids:
             return known
         own = PLACES.c
-        is_same = (own.reader == READER) & ((own.library == own_library()) | own.what.in_([it.value for it in INDEPENDENT]))
-        is_good = own.is_settled & (own.what != Class.UNREADABLE.value) & is_same
+        is_good = own.is_settled & (own.what != Class.UNREADABLE.value) & (own.reader == READER)
         said = (sa.func.coalesce(own.beside, ""), sa.func.coalesce(is_good, sa.false()), sa.func.coalesce(own.is_verified, sa.false()))
         columns = (own.part, own.file, own.size, own.changed, own.inode, *said)
         asked = sa.select(*columns).where(own.part.in_(ids), own.member == "")
@@ -452,13 +451,6 @@ def _without_own_row(table: sa.Table, ids: Sequence[int]) -> Any:
     has_own = sa.exists().where(own.c.part == table.c.part, own.c.file == table.c.file, own.c.member == "")
     is_other = table.c.member != "" if table is PLACES else sa.true()
     return sa.select(table.c.part, table.c.file).distinct().where(table.c.part.in_(ids), is_other, ~has_own)
-
-
-def own_library() -> str:
-    """Returns the version that rows say."""
-    import cms_canon
-
-    return cms_canon.__version__
 
 
 def is_lost(error: BaseException) -> bool:

@@ -38,5 +38,7 @@ def line_of_worker(worker: WorkerState) -> str:
     if worker.note:
         return f"{who}: {shown(worker.note)}"
     now = int(time.time())
-    held = f", {worker.held} parts since {now - worker.since} s" if worker.since is not None else ""
-    return f"{who}: {worker.files} files read, seen {now - worker.seen} s ago{held}"
+    since = "an unknown time" if worker.since is None else f"{now - worker.since} s"
+    held = f", {worker.held} parts since {since}" if worker.held else ""
+    seen = "at an unknown time" if worker.seen is None else f"{now - worker.seen} s ago"
+    return f"{who}: {worker.files} files read, seen {seen}{held}"

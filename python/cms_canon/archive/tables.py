@@ -21,7 +21,7 @@ from cms_canon._texts import REFUSALS
 from .containers.found import Class, State
 from .reading import LONGEST
 
-SCHEMA = 3  # the version of the tables: 1 is that of releases up to 0.8.0, which say no version, and 2 of 0.9.0
+SCHEMA = 4  # the version of the tables: 1 is that of releases up to 0.8.0, which say no version, 2 of 0.9.0, and 3 of those from 0.10.0 to 0.17.0
 MOST_CHUNKS = 16  # of a folder: each lists all of it
 MOST_TRIED = 1000  # times that a part was taken, as they are counted
 MOST_OF_A_KEY = LONGEST + 68  # octets of a name, with what is said at its end if it was cut
@@ -197,6 +197,7 @@ PLACE_SIGNERS = sa.Table(
     *(sa.Column(it, sa.Text) for it in ("digest", "signature", "issuer", "serial", "key_identifier", "signing_time", "subject")),
     *(sa.Column(it, sa.Text) for it in ("not_before", "not_after", "key")),
     sa.Column("bits", sa.Integer),
+    sa.Column("certificate", sa.Text),  # the algorithm by which the certificate is signed
     sqlite_with_rowid=False,
 )
 PLACE_TIMES = sa.Table(

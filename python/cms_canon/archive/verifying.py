@@ -14,9 +14,9 @@ from typing import Any, Dict, Iterable, Iterator, List, NamedTuple, Optional, Se
 import sqlalchemy as sa
 
 from .containers.packed import why_of
-from .folders import NOT_THERE, Listing, is_gone, listed, named_by, path_of, texts_of_folder
+from .folders import NOT_THERE, Listing, is_gone, listed, path_named_by, path_of, texts_of_folder
 from .queries import name_of
-from .reading import Entry, Row, is_cut, name_of_text, rows_of_entry
+from .reading import NO_PATH, TOO_LONG, Entry, Row, is_cut, name_of_text, rows_of_entry
 from .sessions import Held
 from .store import ASKED, Store
 from .tables import LISTS, OF_PARTS, PARTS, PLACES, WORKERS, PartState, columns_of
@@ -25,8 +25,6 @@ from .walking import entry_of, is_reached
 
 NOT_STORED = "it is not stored"
 GONE = "it is not there any more"
-NO_PATH = "no path is named so"
-TOO_LONG = "its name is too long to be read back"
 _COMPARED = (
     *("what", "form", "length", "size", "digest", "kind", "signers", "is_der", "time", "reason", "name", "at", "content_type", "content", "state", "findings"),
     *("digests", "signatures", "verdict"),
@@ -260,8 +258,8 @@ def _files(store: Store, sample: Optional[int]) -> Iterator[Difference]:
         if is_cut(it.whole):
             yield Difference(it.path, TOO_LONG, default)
             continue
-        path = named_by(it.whole)
-        if path is None or "\0" in path or any(word in (".", "..") for word in path.split("/")):
+        path = path_named_by(it.whole)
+        if path is None:
             yield Difference(it.path, NO_PATH, default)
         elif not it.is_folder and not _is_file(path):
             yield Difference(it.path, GONE, default)

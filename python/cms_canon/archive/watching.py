@@ -2,6 +2,7 @@
 
 from __future__ import annotations
 
+import time
 from typing import Any, Callable, Iterator, NamedTuple, Optional
 
 import sqlalchemy as sa
@@ -10,6 +11,10 @@ from sqlalchemy.exc import DBAPIError
 from .guards import WORKER_LOCK
 from .opening import engine_of
 from .tables import IS_GIVEN_UP, IS_TAKEN, IS_TO_DO, PARTS, WORKERS
+
+
+MOST_OF_A_NOTE = 500  # characters of what a worker says that are shown
+DAY = 86_400  # seconds by which the clock of a worker may be ahead
 
 
 class Counts(NamedTuple):
@@ -45,8 +50,9 @@ class WorkerState(NamedTuple):
     account: Optional[str]
     address: Optional[str]
     package: str
-    began: int
-    seen: int
+    began: Optional[int]
+    """This and the next one are None if they are no times that can be."""
+    seen: Optional[int]
     parts: int
     files: int
     octets: int
@@ -112,7 +118,16 @@ def workers_of(connection: sa.engine.Connection, is_all: bool = False) -> Iterat
     columns = [named[it] if it in named else WORKERS.c[it] for it in WorkerState._fields]
     is_wanted = sa.true() if is_all else WORKERS.c.ended.is_(None) | WORKERS.c.note.is_not(None)
     for row in connection.execute(sa.select(*columns).where(is_wanted).order_by(WORKERS.c.id)):
-        yield WorkerState(*row)
+        yield _plain(WorkerState(*row))
+
+
+def _plain(it: WorkerState) -> WorkerState:
+    """Returns the same without what no worker that works would say: times before 1970 or to come, and a note that is long."""
+    latest = int(time.time()) + DAY
+    said = {"began": it.began, "seen": it.seen, "since": it.since}
+    times = {name: value if value is not None and 0 <= value <= latest else None for name, value in said.items()}
+    is_long = it.note is not None and len(it.note) > MOST_OF_A_NOTE
+    return it._replace(note=f"{str(it.note)[:MOST_OF_A_NOTE]}.." if is_long else it.note, **times)
 
 
 def given_up(connection: sa.engine.Connection) -> Iterator[str]:

@@ -8,13 +8,16 @@ import string
 from base64 import b64decode
 from typing import Iterator, List, NamedTuple, Optional
 
+import cms_canon
+
 from .found import Class, Found
 from .sources import Budget, Source
 
 ENDINGS = (".p7s", ".p7m", ".sig", ".tsr", ".tst")  # of a file that signs or stamps the one with the rest of its name
-SIGNED = (b"CMS", b"PKCS7", b"PKCS #7 SIGNED DATA")
+SIGNED = (b"CMS", b"PKCS7", b"PKCS #7 SIGNED DATA", b"SIGNED MESSAGE")  # the last is of gpgsm
+MARK = b"\xef\xbb\xbf"  # that some programs write before a text in UTF-8
 OPENPGP = b"PGP "  # the labels of OpenPGP begin so
-_BEGIN = re.compile(rb"^-----BEGIN ([A-Z0-9 #.-]{1,64})-----[ \t]*\r?$", re.M)
+_BEGIN = re.compile(rb"^-----BEGIN ([ -~]{1,64}?)-----[ \t]*\r?$", re.M)
 _EMPTY_LINE = re.compile(rb"\n\r?\n")
 _SPACE = b" \t\r\n\f\v"
 _FIRST = b"M"  # base64 of an octet 30 begins so
@@ -59,6 +62,14 @@ def _decoded(body: Optional[bytes]) -> Optional[bytes]:
         return None
 
 
+def _is_message(octets: Optional[bytes]) -> bool:
+    """Whether a block is a message, whatever its label says."""
+    try:
+        return octets is not None and octets[:1] == b"\x30" and bool(cms_canon.convert(octets))
+    except cms_canon.Refused:
+        return False
+
+
 def _candidate(where: str, form: str, octets: Optional[bytes], name: str) -> Found:
     if octets is None:
         return Found(where, form, Class.DAMAGED, 0, note="it is not base64")
@@ -67,12 +78,13 @@ def _candidate(where: str, form: str, octets: Optional[bytes], name: str) -> Fou
 
 def in_pem(octets: bytes, source: Source) -> Iterator[Found]:
     """Gives each message in blocks of PEM: the file itself if it is the only block, which may have text around it."""
+    octets = octets[len(MARK) :] if octets.startswith(MARK) else octets
     if b"\n" not in octets:
         octets = octets.replace(b"\r", b"\n")
     blocks: List[Block] = []
     others = set()
     for block in _blocks_of(octets, source.budget):
-        if block.label in SIGNED:
+        if block.label in SIGNED or _is_message(_decoded(block.body)):
             blocks.append(block)
         else:
             others.add(block.label)
@@ -92,8 +104,9 @@ def in_pem(octets: bytes, source: Source) -> Iterator[Found]:
 
 def in_base64(source: Source) -> Optional[Found]:
     """Returns the message that a file of bare base64 is; None if it is none."""
-    if source.head.lstrip(_SPACE)[:1] != _FIRST or source.head.translate(None, _ALPHABET):
+    head = source.head[len(MARK) :] if source.head.startswith(MARK) else source.head
+    if head.lstrip(_SPACE)[:1] != _FIRST or head.translate(None, _ALPHABET):
         return None
-    octets = _decoded(source.octets())
+    octets = _decoded(source.octets()[len(source.head) - len(head) :])
     return None if octets is None or octets[:1] != b"\x30" else _candidate("", "base64", octets, source.name)
 

@@ -9,13 +9,20 @@ from __future__ import annotations
 import binascii
 import re
 from base64 import b64decode
-from typing import Dict, List, NamedTuple, Optional, Tuple
+from typing import Dict, List, NamedTuple, Optional, Sequence, Tuple
 from urllib.parse import unquote
 from xml.parsers import expat
 
+import cms_canon
+
 from .found import Class, Content, Found, Pieces
 from .manifests import Compared, Listed, algorithm_of, plain
+from .sources import Budget
 
+LONGEST_ELEMENT = 1 << 18  # octets with which an element of a manifest may begin, since expat has all its attributes at once
+MOST_TRIED = 100  # manifests that name one signature
+_DIFFERS = {7, 14}  # F7 and F14
+_PIECE = 1 << 16
 MANIFEST = re.compile(r"META-INF/[^/]*ASiC[^/]*Manifest[^/]*\.xml\Z", re.I)
 SIGNATURE = re.compile(r"META-INF/[^/]*(?:signature|timestamp)[^/]*\.(?:p7s|tst)\Z", re.I)
 _OF_A_CONTAINER = re.compile(r"META-INF/(?:container|manifest)\.xml\Z", re.I)
@@ -43,7 +50,8 @@ class Manifest(NamedTuple):
 class _Reader:
     """Reads an ASiCManifest. Entities of its own, by which a small file could become large, are refused."""
 
-    def __init__(self) -> None:
+    def __init__(self, budget: Budget) -> None:
+        self._budget = budget
         self.signature = ""
         self.listed: List[Listed] = []
         self._name: Optional[str] = None
@@ -51,6 +59,7 @@ class _Reader:
         self._text: Optional[List[str]] = None
         self._digests: List[Tuple[Optional[str], bytes]] = []
         self._parser = expat.ParserCreate(namespace_separator="}")
+        self._parser.buffer_text = True
         self._parser.StartDoctypeDeclHandler = self._refuse
         self._parser.StartElementHandler = self._begin
         self._parser.EndElementHandler = self._end
@@ -58,7 +67,11 @@ class _Reader:
 
     def read(self, octets: bytes) -> None:
         try:
-            self._parser.Parse(octets, True)
+            for at in range(0, len(octets), _PIECE):
+                self._parser.Parse(octets[at : at + _PIECE], False)
+                if at - self._parser.CurrentByteIndex > LONGEST_ELEMENT:
+                    raise NotAManifest(f"an element begins with more than {LONGEST_ELEMENT:,} octets")
+            self._parser.Parse(b"", True)
         except (expat.ExpatError, ValueError, binascii.Error) as why:
             raise NotAManifest(str(why))
 
@@ -66,11 +79,12 @@ class _Reader:
         raise NotAManifest("it has a document type")
 
     def _begin(self, element: str, attributes: Dict[str, str]) -> None:
+        self._budget.take_parts(1)
         name = element.rpartition("}")[2]
         if name == "SigReference":
             self.signature = plain(unquote(attributes.get("URI", "")))
         elif name == "DataObjectReference":
-            self._name, self._digests = unquote(attributes.get("URI", "")), []
+            self._name, self._digests = plain(unquote(attributes.get("URI", ""))), []
         elif name == "DigestMethod":
             self._algorithm = algorithm_of(attributes.get("Algorithm", ""))
         elif name == "DigestValue":
@@ -90,11 +104,30 @@ class _Reader:
             self._name = None
 
 
-def manifest_of(name: str, octets: bytes) -> Manifest:
+def manifest_of(name: str, octets: bytes, budget: Budget) -> Manifest:
     """Returns what a manifest says. Raises `NotAManifest` if it is none."""
-    reader = _Reader()
+    reader = _Reader(budget)
     reader.read(octets)
     return Manifest(name, octets, reader.signature, tuple(reader.listed))
+
+
+def signed_of(message: bytes, manifests: Sequence[Manifest], budget: Budget) -> Manifest:
+    """Returns the manifest that a message signs or stamps, of several that name it; the first if it is none of them."""
+    for it in manifests[:MOST_TRIED] if len(manifests) > 1 else ():
+        budget.take(len(message) + len(it.octets))
+        if _is_for(message, it.octets):
+            return it
+    return manifests[0]
+
+
+def _is_for(message: bytes, content: bytes) -> bool:
+    """Whether a message is one whose digests are not those of something else."""
+    try:
+        is_stamp = cms_canon.read(message).content is not None
+        found = cms_canon.check(message, None if is_stamp else content, content if is_stamp else None)
+    except (cms_canon.Refused, ValueError):
+        return False
+    return not {it.code for it in found} & _DIFFERS
 
 
 def found_in_e(name: str, message: bytes, manifest: Manifest, with_files: Compared) -> Found:

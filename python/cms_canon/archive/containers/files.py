@@ -15,6 +15,10 @@ from .sources import PIECE, Budget, Ended, Source, TooMuch
 
 SMALL = 1 << 20  # octets of content that is read at once
 SHORT = 1 << 16  # octets of a file that is read at once
+_KINDS = (
+    *((stat.S_ISFIFO, "a FIFO"), (stat.S_ISSOCK, "a socket"), (stat.S_ISDIR, "a folder")),
+    *((stat.S_ISCHR, "a device"), (stat.S_ISBLK, "a device")),
+)
 _FLAGS = os.O_RDONLY | os.O_NOFOLLOW | os.O_NONBLOCK | os.O_CLOEXEC
 
 
@@ -32,12 +36,25 @@ class _File(io.FileIO):
             raise Unreadable(why_of(error)) from error
 
 
+def _refuse_others(mode: int) -> None:
+    """Raises `OSError` if a file is no regular one."""
+    if not stat.S_ISREG(mode):
+        raise OSError(f"it is {kind_of(mode)}, and not a regular file")
+
+
+def kind_of(mode: int) -> str:
+    """Returns what a file is that is neither regular nor a folder, in words."""
+    return next((kind for is_so, kind in _KINDS if is_so(mode)), "of another kind")
+
+
 def opened(path: str) -> BinaryIO:
     """Opens a regular file. Raises `OSError` if it is a symbolic link or of another kind by now: a FIFO would be waited for."""
     descriptor = os.open(path, _FLAGS)
-    if not stat.S_ISREG(os.fstat(descriptor).st_mode):
+    try:
+        _refuse_others(os.fstat(descriptor).st_mode)
+    except OSError:
         os.close(descriptor)
-        raise OSError("it is not a regular file")
+        raise
     return io.BufferedReader(_File(descriptor))
 
 
@@ -89,8 +106,7 @@ def _begun(path: str) -> Tuple[BinaryIO, int]:
     descriptor = os.open(path, _FLAGS)
     try:
         status = os.fstat(descriptor)
-        if not stat.S_ISREG(status.st_mode):
-            raise OSError("it is not a regular file")
+        _refuse_others(status.st_mode)
         if status.st_size < SHORT:
             octets = _read(descriptor, status.st_size + 1)
             if len(octets) == status.st_size:

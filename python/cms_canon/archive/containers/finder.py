@@ -7,7 +7,9 @@ only say that it is something else.
 from __future__ import annotations
 
 from functools import partial
-from typing import Callable, Dict, Iterator, Tuple
+from typing import Callable, Dict, Iterator, Optional, Tuple
+
+import cms_canon
 
 from . import armour, mail, named, packed, pdf, zips
 from .found import Class, Found, counted
@@ -19,10 +21,10 @@ Look = Tuple[str, Into]  # what kind of file it seems to be, and what looks into
 
 SIGNATURE_ENDINGS = (".p7s", ".p7m", ".p7c", ".cms", ".tsq", ".tsr", ".tst")  # a file so named lies where a message is due
 _ELEMENT = b"\x30"
+_DATA = tuple(bytes.fromhex("2a864886f70d010701") + it for it in (b"\xa0", b"\x24", b"\x04"))  # the type of contents, and how one begins
+_SIGNED_CONTENT = "signed content"
 _UTF_16 = (b"\xff\xfe", b"\xfe\xff")
 _BEGIN = b"-----BEGIN "
-_PDF = b"%PDF-"
-_PDF_WITHIN = 1024  # octets in which a PDF may begin
 
 
 def found_in(source: Source, depth: int = 0, mails: int = 0) -> Iterator[Found]:
@@ -35,6 +37,9 @@ def found_in(source: Source, depth: int = 0, mails: int = 0) -> Iterator[Found]:
     own = None
     try:
         for it in counted(look(), tally):
+            if it.what is Class.MESSAGE and not it.is_opened:
+                yield from _in_signed_content(it, source, depth, mails)
+                it = it._replace(is_opened=True)
             if it.where == "":
                 own = it
             else:
@@ -52,12 +57,55 @@ def found_in(source: Source, depth: int = 0, mails: int = 0) -> Iterator[Found]:
     yield own
 
 
+def _in_signed_content(message: Found, source: Source, depth: int, mails: int) -> Iterator[Found]:
+    """Gives what is in the content that a message holds itself, if that is something."""
+    octets = _content_of(message)
+    if octets is None:
+        return
+    source.budget.take(len(octets))
+    inner = in_memory((armour.wanted_by(source.name) or "") if message.where == "" else "", octets, source.budget)
+    if depth < DEEPEST:
+        found = found_in(inner, depth + 1, mails + 1)
+    elif _look_for(inner, depth, mails)[0] not in ("text", "file") or _content_of(message._replace(octets=octets)) is not None:
+        found = iter((Found("", "signed content", Class.TOO_LARGE, len(octets), note=f"signed contents are nested more than {DEEPEST} deep"),))
+    else:
+        return
+    for it in found:
+        if it.what in (Class.TEXT, Class.NO_CANDIDATE, Class.EMPTY) or _is_something_else(it):
+            continue
+        it = (it.with_content(None) if it.wants else it).within(_SIGNED_CONTENT)
+        yield it._replace(where=f"{message.where}!{it.where}") if message.where else it
+
+
+def _content_of(message: Found) -> Optional[bytes]:
+    """Returns the data that a message signs and holds; None if there are none."""
+    octets = message.octets or b""
+    if not any(it in octets for it in _DATA):  # which costs much less than to read it
+        return None
+    try:
+        read = cms_canon.read(octets)
+    except cms_canon.Refused:
+        return None
+    return bytes(read.content) if read.content else None
+
+
+def _is_something_else(it: Found) -> bool:
+    """Whether what may be a message in signed content is none, as a certificate."""
+    if it.where or it.what is not Class.MESSAGE or it.octets is None:
+        return False
+    try:
+        cms_canon.convert(it.octets)
+    except cms_canon.Refused:
+        return True
+    return False
+
+
 def _look_for(source: Source, depth: int, mails: int) -> Look:
     """Returns what kind of file it seems to be, and what looks into it."""
     inner = partial(found_in, depth=depth + 1, mails=mails)
     packing = packed.packing_of(source)
-    if source.head.startswith(_PDF):
-        return "PDF", partial(pdf.in_pdf, source)
+    if source.head.startswith(pdf.BEGIN):
+        return "PDF", partial(pdf.in_pdf, source, partial(_in_attached, depth, mails))
     if zips.is_zip(source):
         return "zip", partial(_packed, source, depth, partial(zips.in_zip, source, inner))
     if packing is not None:
@@ -65,23 +113,33 @@ def _look_for(source: Source, depth: int, mails: int) -> Look:
         return packing.name, partial(_packed, source, depth, into)
     if packed.is_tar(source):
         return "tar", partial(_packed, source, depth, packed.Tar(source, None, inner).found)
+    if (archive := named.archive(source)) is not None:
+        return archive.form, lambda: iter((archive,))
     if source.head and not source.head.translate(None, TEXT) or mail.is_mail(source.head):
         return _look_for_text(source, depth, mails)
     if source.head.startswith(_UTF_16):
         return "text", partial(_in_utf_16, source)
     if source.head.startswith(_ELEMENT):
         return "file", partial(_in_octets, source)
-    return _or_pdf(source, "file", partial(_in_octets, source))
+    return _or_pdf(source, "file", partial(_in_octets, source), depth, mails)
 
 
-def _or_pdf(source: Source, form: str, into: Into) -> Look:
+def _in_attached(depth: int, mails: int, source: Source) -> Iterator[Found]:
+    """Gives what is in a file that is attached to a PDF, if it is not too deep inside others."""
+    if depth >= DEEPEST:
+        return iter((Found("", "file", Class.TOO_LARGE, source.size, note=f"packed files are nested more than {DEEPEST} deep"),))
+    return found_in(source, depth + 1, mails)
+
+
+def _or_pdf(source: Source, form: str, into: Into, depth: int, mails: int) -> Look:
     """Returns the same of a file in which a PDF may begin after something else, so that both are looked for."""
-    return ("PDF", partial(_in_late_pdf, source, into)) if _PDF in source.head[:_PDF_WITHIN] else (form, into)
+    late = partial(_in_late_pdf, source, into, partial(_in_attached, depth, mails))
+    return ("PDF", late) if pdf.BEGIN in source.head[:pdf.BEGINS_WITHIN] else (form, into)
 
 
-def _in_late_pdf(source: Source, into: Into) -> Iterator[Found]:
+def _in_late_pdf(source: Source, into: Into, search: packed.Search) -> Iterator[Found]:
     """Gives the signatures of a PDF, and what else there is in the file."""
-    yield from pdf.in_pdf(source)
+    yield from pdf.in_pdf(source, search)
     yield from (it for it in into() if it.where or it.what not in (Class.TEXT, Class.NO_CANDIDATE))
 
 
@@ -110,9 +168,9 @@ def _look_for_text(source: Source, depth: int, mails: int) -> Look:
     search = partial(found_in, depth=depth, mails=mails + 1)
     if source.head.startswith(b"From "):
         return "mbox", partial(_in_mail, source, mails, partial(mail.in_mbox, source, search))
-    if mail.is_mail(source.head):
+    if mail.is_mail(source.head) or mail.is_mail_further(source):
         return "mail", partial(_in_mail, source, mails, partial(mail.in_mail, source, search))
-    return _or_pdf(source, "text", partial(_in_text, source))
+    return _or_pdf(source, "text", partial(_in_text, source), depth, mails)
 
 
 def _in_text(source: Source) -> Iterator[Found]:
@@ -121,8 +179,8 @@ def _in_text(source: Source) -> Iterator[Found]:
         yield base64
         return
     octets = source.octets()
-    if named.xml_signature(octets):
-        yield Found("", "XML signature", Class.OTHER, len(octets))
+    if (xml := named.in_xml(octets)) is not None:
+        yield xml
     elif _BEGIN in octets:
         yield from _as_named(source, octets, armour.in_pem(octets, source))
     else:
@@ -153,8 +211,11 @@ def _message(source: Source, octets: bytes) -> Found:
 
 def _in_octets(source: Source) -> Iterator[Found]:
     """Gives what a file that is no text is by itself."""
+    if (known := named.in_asn_1(source)) is not None:
+        yield known
+        return
     if source.head.startswith(_ELEMENT) or source.name.lower().endswith(SIGNATURE_ENDINGS):
         yield _message(source, source.octets())
         return
-    known = named.authenticode(source) or named.openpgp(source)
+    known = named.authenticode(source) or named.openpgp(source) or named.archive(source) or named.self_extracting(source)
     yield known or Found("", "file", Class.NO_CANDIDATE, source.size, note="" if source.head else "empty")

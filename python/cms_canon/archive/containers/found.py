@@ -17,6 +17,7 @@ class Class(str, Enum):
     CONTAINER = "container"
     EMPTY = "container without message"
     OTHER = "other signed format"
+    NOT_LOOKED_INTO = "not looked into"
     TEXT = "text"
     NO_CANDIDATE = "not a candidate"
     DAMAGED = "damaged"
@@ -104,11 +105,17 @@ class Found(NamedTuple):
     """The name of the file beside it which it covers, as long as nobody has looked for that."""
     note: str = ""
     """Why it is so, or what else is to be said."""
+    is_opened: bool = False
+    """Whether the content that it holds itself has been looked into."""
 
     def within(self, name: str) -> Found:
         r"""Returns the same as it is called from outside the member of this name, in which `!` is written as `\x21`."""
         name = name.replace("!", r"\x21")
         return self._replace(where=f"{name}!{self.where}" if self.where else name)
+
+    def noted(self, *notes: str) -> Found:
+        """Returns the same with more that is to be said of it."""
+        return self._replace(note="; ".join(filter(None, (self.note, *notes))))
 
     def with_content(self, content: Optional[Content]) -> Found:
         """Returns the same with the content that it covers, of which it needs none any more."""

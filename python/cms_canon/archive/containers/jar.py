@@ -7,12 +7,15 @@ import hashlib
 import re
 from base64 import b64decode
 from functools import cached_property
-from typing import AbstractSet, Dict, FrozenSet, Iterable, Iterator, List, NamedTuple, Optional, Tuple
+from typing import AbstractSet, Dict, FrozenSet, Iterable, Iterator, List, NamedTuple, Optional, Set, Tuple
 
 from .found import Class, Content, Found, Pieces, State
-from .manifests import Compared, Digest, Listed, algorithm_of, at_best, compared, plain, weak_alone
+from .manifests import Compared, Digest, Listed, algorithm_of, at_best, compared, weak_alone
+from .sources import Budget, TooLarge
 
 FORM = "JAR"
+LONGEST_SECTION = 1 << 20  # octets of a section of a manifest
+MOST_LINES = 1000  # of a section of a manifest, of which a folded one counts once
 _BLOCK = re.compile(r"META-INF/([^/]+)\.(?:RSA|DSA|EC)\Z", re.I)
 _OF_A_SIGNATURE = re.compile(r"META-INF/(?:[^/]+\.(?:SF|RSA|DSA|EC)|SIG-[^/]*|MANIFEST\.MF)\Z", re.I)  # which no manifest lists
 _SECTION_END = re.compile(rb"(?:\r\n|\n|\r(?!\n)){2,}")
@@ -20,7 +23,15 @@ _FOLD = re.compile(rb"(?:\r\n|\n|\r(?!\n)) ")
 _LINE = re.compile(rb"\r\n|\n|\r")
 _DIGEST = re.compile(r"(?:(?P<algorithm>[A-Za-z0-9/-]+?)-Digest)(?P<what>-Manifest(?:-Main-Attributes)?)?\Z", re.I)
 _WHOLE, _MAIN = "-manifest", "-manifest-main-attributes"
+_APK_SCHEMES = "x-android-apk-signed"
 _Digests = Tuple[Tuple[Optional[str], bytes], ...]
+
+
+class Limits(NamedTuple):
+    """How much of the manifest and of the signature files may be read: what is left of the budget, and the sections of each."""
+
+    budget: Budget
+    sections: int
 
 
 class _Section(NamedTuple):
@@ -50,18 +61,32 @@ def _decoded(value: str) -> bytes:
         return b""  # which no digest is
 
 
-def _sections_of(octets: bytes) -> Iterator[_Section]:
-    at = 0
+def _sections_of(octets: bytes, limits: Limits) -> Iterator[_Section]:
+    """Gives the sections of a manifest or of a signature file, as far as there may be any. Raises `TooLarge` if there are more."""
+    at, left = 0, limits.sections
     while at < len(octets):
-        end = _SECTION_END.search(octets, at)
+        end = _SECTION_END.search(octets, at, at + LONGEST_SECTION)
         section = octets[at : end.end() if end else len(octets)]
+        if len(section) > LONGEST_SECTION:
+            raise TooLarge(f"a section of a manifest has more than {LONGEST_SECTION:,} octets")
         at += len(section)
-        attributes = []
-        for line in _LINE.split(_FOLD.sub(b"", section)):
-            key, colon, value = line.decode("utf-8", "replace").partition(": ")
-            if colon:
-                attributes.append((key, value))
-        yield _Section(section, attributes)
+        left -= 1
+        if left < 0:
+            raise TooLarge(f"a manifest has more than {limits.sections:,} sections")
+        yield _Section(section, _attributes_of(section, limits))
+
+
+def _attributes_of(section: bytes, limits: Limits) -> List[Tuple[str, str]]:
+    attributes = []
+    lines = _LINE.split(_FOLD.sub(b"", section), MOST_LINES)
+    limits.budget.take_parts(len(lines))
+    if len(lines) > MOST_LINES:
+        raise TooLarge(f"a section of a manifest has more than {MOST_LINES:,} lines")
+    for line in lines:
+        key, colon, value = line.decode("utf-8", "replace").partition(": ")
+        if colon:
+            attributes.append((key, value))
+    return attributes
 
 
 def is_signed(names: Dict[str, str]) -> bool:
@@ -76,15 +101,23 @@ def stem_of(name: str) -> Optional[str]:
 
 
 def due_of(names: Iterable[str]) -> FrozenSet[str]:
-    """Returns the plain names of what a manifest has to list."""
-    return frozenset(plain(it) for it in names if not _OF_A_SIGNATURE.match(it))
+    """Returns the names of what a manifest has to list."""
+    return frozenset(it for it in names if not _OF_A_SIGNATURE.match(it))
+
+
+def schemes_of(signature_file: bytes, limits: Limits) -> Set[int]:
+    """Returns the later schemes of APK of which a signature file says that the APK is signed by them too."""
+    main = next(_sections_of(signature_file, limits), None)
+    values = [value for key, value in main.attributes if key.lower() == _APK_SCHEMES] if main else []
+    return {int(it) for value in values for it in value.split(",") if it.strip().isdecimal() and len(it) < 9} - {1}
 
 
 class Manifest:
     """META-INF/MANIFEST.MF, which is taken apart once for all signature files."""
 
-    def __init__(self, octets: bytes) -> None:
+    def __init__(self, octets: bytes, limits: Limits) -> None:
         self.octets = octets
+        self.limits = limits
         self._digests: Dict[str, bytes] = {}
 
     def digest(self, algorithm: str) -> bytes:
@@ -92,22 +125,23 @@ class Manifest:
             self._digests[algorithm] = hashlib.new(algorithm, self.octets).digest()
         return self._digests[algorithm]
 
-    @cached_property
-    def sections(self) -> List[_Section]:
-        return list(_sections_of(self.octets))
+    def _sections(self) -> Iterator[_Section]:
+        return _sections_of(self.octets, self.limits)
 
     @cached_property
     def main(self) -> Optional[bytes]:
         """The section with the main attributes."""
-        return self.sections[0].octets if self.sections and self.sections[0].name is None else None
+        first = next(self._sections(), None)
+        return first.octets if first and first.name is None else None
 
     @cached_property
     def by_name(self) -> Dict[Optional[str], bytes]:
-        return {it.name: it.octets for it in self.sections}
+        return {it.name: it.octets for it in self._sections()}
 
     @cached_property
     def listed(self) -> List[Listed]:
-        return [Listed(it.name, it.digests("")) for it in self.sections if it.name is not None and it.digests("")]
+        some = ((it.name, it.digests("")) for it in self._sections())
+        return [Listed(name, digests) for name, digests in some if name is not None and digests]
 
 
 class _Cover(NamedTuple):
@@ -125,13 +159,14 @@ def _fits(octets: Optional[bytes], digests: _Digests) -> Optional[bool]:
     return all(hashlib.new(algorithm, octets).digest() == digest for algorithm, digest in known) if known else None
 
 
-def _cover_of(signature: List[_Section], manifest: Manifest) -> _Cover:
+def _cover_of(signature: Iterator[_Section], manifest: Manifest) -> _Cover:
     """Compares a signature file with a manifest as a whole, or else with its main attributes and each of its sections that it names."""
-    wholes, main = (signature[0].digests(what) if signature else () for what in (_WHOLE, _MAIN))
+    first = next(signature, None)
+    wholes, main = (first.digests(what) if first else () for what in (_WHOLE, _MAIN))
     known = [(algorithm, digest) for algorithm, digest in wholes if algorithm]
     if known and all(manifest.digest(algorithm) == digest for algorithm, digest in known):
         return _Cover(_noted(State.FITS, "", [wholes]))
-    some = [(it.name, it.digests("")) for it in signature[1:]]
+    some = [(it.name, it.digests("")) for it in signature]
     came = [_fits(manifest.by_name.get(name), digests) for name, digests in some]
     fits_main = _fits(manifest.main, main) if main else None
     if fits_main is False:
@@ -153,7 +188,7 @@ def compared_with_files(signature_file: bytes, manifest: Optional[Manifest], due
     """Compares a signature file with the manifest, and the sections of the manifest that it is for with the files that are due."""
     if manifest is None:
         return Compared(State.DIFFERS, "there is no META-INF/MANIFEST.MF")
-    cover = _cover_of(list(_sections_of(signature_file)), manifest)
+    cover = _cover_of(_sections_of(signature_file, manifest.limits), manifest)
     if cover.came.bound is State.DIFFERS:
         return cover.came
     listed = manifest.listed if cover.names is None else [it for it in manifest.listed if it.name in cover.names]

@@ -3,7 +3,8 @@
 What is signed are the exact octets of a part, so the parts are cut out of what was read; `email` is asked for headers alone.
 
 Parts are cut out of the octets, since `email` gives them back changed under any policy: blanks after a colon, a missing last boundary, a
-lone CR. It reads the headers that say what a part is, none longer than 8 KiB, since it takes quadratic time for one.
+lone CR. It reads the headers that say what a part is, none longer than 8 KiB, since it takes quadratic time for one. Whatever readers take apart
+differently, as two parameters of one name, has a note.
 """
 
 from __future__ import annotations
@@ -11,6 +12,7 @@ from __future__ import annotations
 import binascii
 import re
 from base64 import b64decode
+from dataclasses import dataclass, replace
 from email.message import Message
 from email.parser import BytesHeaderParser
 from email.policy import compat32
@@ -19,7 +21,7 @@ from typing import BinaryIO, Callable, Iterator, List, NamedTuple, Optional, Tup
 
 import cms_canon
 
-from .found import Class, Content, Found, Octets, State
+from .found import Class, Content, Found, Octets, Pieces, State
 from .sources import MOST_IN_MEMORY, PIECE, TEXT, Budget, Source, TooLarge, in_memory
 
 Search = Callable[[Source], Iterator[Found]]
@@ -29,6 +31,7 @@ _CMS_TYPES = {
     *("application/timestamp-reply", "application/timestamp-token"),
 }
 _OTHERS = "other parts are not covered"
+_WITH_LF = "it was signed as it is, with LF at the ends of lines: readers differ on that"
 _DIFFERS = (7, 9)  # the findings that say that the content is another one, or is not there
 _OPENPGP_TYPES = {"application/pgp-signature"}
 _DEEPEST_PART = 20  # parts inside one another
@@ -40,9 +43,20 @@ _LINE_END = re.compile(rb"\r?\n")
 _REST_OF_DELIMITER = re.compile(rb"(--)?[ \t]*(?=\r?\n|\Z)")
 _MAIL = re.compile(rb"(?:from|to|date|subject|received|return-path|delivered-to|message-id|mime-version|content-type)[ \t]*:", re.I)
 _FIRST_HEADER = re.compile(rb"[!-9;-~]+[ \t]*:")
+_NO_HEADER = re.compile(rb"^(?![!-9;-~]+:|[ \t]|\r?$|\Z)", re.M)  # a line that is none, nor the rest of one
+_LONE_CR = re.compile(rb"\r(?!\n)")
+_PARAMETER = r';\s*([\w.-]+(?:\*\d*)?\*?)=(?:"[^"\\\r\n]*"|[^\s;"()<>@,:/\[\]?=\\]+)\s*'
+_PLAIN_TYPE = re.compile(rf"\s*[\w.+-]+/[\w.+-]+\s*(?:{_PARAMETER})*(?:;\s*)?\Z", re.A)
+_NAMES_OF_PARAMETERS = re.compile(_PARAMETER, re.A)
+_QUOTED_OR_COMMENT = re.compile(r'"(?:[^"\\]|\\.)*"|\((?:[^()\\]|\\.)*\)', re.S)
+_DEEPEST_COMMENT = 3  # inside one another
+_QUOTED_PAIR = re.compile(r"\\(.)", re.S)
+_ALPHABET = re.compile(rb"[A-Za-z0-9+/\s]*(?:=\s*){0,2}\Z")
+_MOST_HEADERS = 1 << 20  # octets before a header that mails have
 _QUOTED_FROM = re.compile(rb"^>(>*From )", re.M)
 _HEADERS = BytesHeaderParser(policy=compat32)
 _NO_HEADERS = Message(policy=compat32)
+_BLANKS_BEFORE_COLON = re.compile(rb"[ \t]+:")
 
 
 class _Damaged(Exception):
@@ -50,8 +64,33 @@ class _Damaged(Exception):
 
 
 class _Part(NamedTuple):
+    """A part: what its headers say of it, what readers may take otherwise, and its body."""
+
     headers: Message
+    kind: str
+    boundary: Optional[str]
+    notes: Tuple[str, ...]
     body: bytes
+
+    @property
+    def coding(self) -> str:
+        return str(self.headers.get("Content-Transfer-Encoding") or "7bit").strip().lower()
+
+
+@dataclass(frozen=True)
+class _Around:
+    """What is to be said of what lies around a part."""
+
+    has_others: bool = False
+    """Whether there are other parts beside it."""
+    notes: Tuple[str, ...] = ()
+
+    def within(self, part: _Part) -> _Around:
+        """Returns the same for what is in a part."""
+        return replace(self, notes=tuple(dict.fromkeys((*self.notes, *part.notes))))
+
+    def note(self, *more: str) -> str:
+        return "; ".join(filter(None, (*self.notes, *more, _OTHERS if self.has_others else "")))
 
 
 def _begun(octets: bytes) -> bytes:
@@ -69,32 +108,95 @@ def is_mail(head: bytes) -> bool:
     return not headers.translate(None, TEXT + b"\0") and any(map(_MAIL.match, headers.split(b"\n")))
 
 
-def _part_of(octets: bytes) -> _Part:
-    """Returns the headers that say what the content is, and the body."""
-    end = _END_OF_HEADERS.search(octets)
-    head, body = (octets[: end.end()], octets[end.end() :]) if end else (octets, b"")
-    wanted = []
+def is_mail_further(source: Source) -> bool:
+    """Whether a file that begins with headers alone is a mail by one of the headers that follow."""
+    head = _begun(source.head)
+    is_headers = _FIRST_HEADER.match(head) and not _END_OF_HEADERS.search(head) and not _NO_HEADER.search(head, 0, head.rfind(b"\n") + 1)
+    return bool(is_headers) and is_mail(source.octets()[:_MOST_HEADERS])
+
+
+def _headers_in(head: bytes) -> List[bytes]:
+    """Returns the headers that say what the content is. Raises `_Damaged` if one is too long, or two say it differently."""
+    wanted: List[bytes] = []
+    said = {}
     for it in _HEADER.finditer(head):
         if len(it[0]) > _LONGEST_HEADER:
             raise _Damaged("a header is too long")
         wanted.append(it[0])
+        value = b"".join(it[0].partition(b":")[2].split())
+        if said.setdefault(it[1].lower(), value) != value:
+            raise _Damaged("two headers say differently what the content is")
         if len(wanted) == 20:
             break
+    return wanted
+
+
+def _part_of(octets: bytes, usual: str = "text/plain") -> _Part:
+    """Returns what the headers say of a part, which without them is of the usual type, and its body."""
+    end = _END_OF_HEADERS.search(octets)
+    head, body = (octets[: end.end()], octets[end.end() :]) if end else (octets, b"")
+    notes = []
+    if _NO_HEADER.search(head):
+        notes.append("readers differ on a line among the headers that is none")
+    if _LONE_CR.search(head):
+        notes.append("readers differ on a lone CR among the headers")
+    wanted = _headers_in(head)
     if not wanted:
-        return _Part(_NO_HEADERS, body)
-    if len({b"".join(it.split()).lower() for it in wanted if it[:13].lower().startswith(b"content-type")}) > 1:
-        raise _Damaged("two headers say differently what the content is")
-    return _Part(_HEADERS.parsebytes(b"\r\n".join(it.rstrip(b"\r") for it in wanted) + b"\r\n\r\n"), body)
+        return _Part(_NO_HEADERS, usual, None, tuple(notes), body)
+    lines = (_BLANKS_BEFORE_COLON.sub(b":", it, 1).rstrip(b"\r") for it in wanted)
+    headers = _HEADERS.parsebytes(b"\r\n".join(lines) + b"\r\n\r\n")
+    text = next((str(value) for name, value in headers.raw_items() if name.lower() == "content-type"), None)
+    if text is None:
+        return _Part(headers, usual, None, tuple(notes), body)
+    if is_plain_type(text):
+        boundary = headers.get_boundary()
+        return _Part(headers, headers.get_content_type(), None if boundary is None else str(boundary), tuple(notes), body)
+    return _Part(headers, *_type_of(text), (*notes, "readers differ on the parameters or comments of Content-Type"), body)
+
+
+def is_plain_type(text: str) -> bool:
+    """Whether all readers take a Content-Type as the same: without comments, and with no two parameters of one name."""
+    if not _PLAIN_TYPE.match(text):
+        return False
+    names = [it.lower().partition("*") for it in _NAMES_OF_PARAMETERS.findall(text, text.index("/"))]
+    whole = [name + (star and "*") for name, star, _ in names if not star or name == "boundary"]
+    return len(set(whole)) == len(whole) and not any(name == "boundary" and star for name, star, _ in names)
+
+
+def _type_of(text: str) -> Tuple[str, Optional[str]]:
+    """Returns the type and the boundary of a Content-Type with comments, or other things that readers differ on. `email` knows no comments."""
+    for _ in range(_DEEPEST_COMMENT):
+        text = _QUOTED_OR_COMMENT.sub(lambda it: it[0] if it[0][0] == '"' else " ", text)
+    bare = Message(policy=compat32)
+    bare["Content-Type"] = text.strip()
+    boundary = bare.get_boundary()
+    return bare.get_content_type(), None if boundary is None else _QUOTED_PAIR.sub(r"\1", str(boundary).strip())
 
 
 def _decoded(part: _Part) -> bytes:
-    coding = str(part.headers.get("Content-Transfer-Encoding") or "7bit").strip().lower()
     try:
-        if coding == "base64":
+        if part.coding == "base64":
             return b64decode(part.body)
-        return binascii.a2b_qp(part.body) if coding == "quoted-printable" else part.body
+        return binascii.a2b_qp(part.body) if part.coding == "quoted-printable" else part.body
     except binascii.Error as error:
-        raise _Damaged(f"it is not {coding}: {error}")
+        raise _Damaged(f"it is not {part.coding}: {error}")
+
+
+def _of_coding(part: _Part) -> str:
+    """Returns what readers differ on in the encoding of a message."""
+    if part.coding == "base64" and not _ALPHABET.match(part.body):
+        return "readers differ on characters that are not of base64"
+    is_known = part.coding in ("7bit", "8bit", "binary", "base64", "quoted-printable")
+    return "" if is_known else "readers differ on Content-Transfer-Encoding"
+
+
+def _of_delimiters(part: _Part, boundary: bytes) -> Iterator[str]:
+    """Gives what readers differ on in a multipart."""
+    if part.coding not in ("7bit", "8bit", "binary"):
+        yield "readers differ on a multipart that is said to be encoded"
+    delimiter = re.escape(b"--" + boundary)
+    if re.search(rb"\r" + delimiter + rb"|" + delimiter + rb"(?:--)?[ \t]*\r(?!\n)", part.body):
+        yield "readers differ on a lone CR beside a boundary"
 
 
 def _delimiters_in(body: bytes, boundary: bytes) -> Iterator[Tuple[int, int, bool]]:
@@ -129,8 +231,13 @@ class _CanonicalLines:
     def __init__(self, octets: bytes) -> None:
         self._octets = octets
 
+    @property
+    def is_same(self) -> bool:
+        """Whether the octets are so already."""
+        return b"\n" not in self._octets.replace(b"\r\n", b"")
+
     def __iter__(self) -> Iterator[Octets]:
-        yield _LINE_END.sub(b"\r\n", self._octets) if b"\n" in self._octets.replace(b"\r\n", b"") else self._octets
+        yield self._octets if self.is_same else _LINE_END.sub(b"\r\n", self._octets)
 
 
 class Mail:
@@ -142,70 +249,84 @@ class Mail:
 
     def found(self, octets: bytes) -> Iterator[Found]:
         """Gives what is signed in these octets, which are a mail."""
-        yield from self._in_part("", _begun(octets), 0)
+        yield from self._in_part("", _begun(octets), 0, _Around())
 
-    def _in_part(self, where: str, octets: bytes, depth: int, has_others: bool = False) -> Iterator[Found]:
-        """Gives what is signed in a part, beside which there may be others, or why it cannot be taken apart."""
+    def _in_part(self, where: str, octets: bytes, depth: int, around: _Around, usual: str = "text/plain") -> Iterator[Found]:
+        """Gives what is signed in a part, or why it cannot be taken apart. `usual` is what it is if it does not say it."""
         try:
-            yield from self._in_sound_part(where, octets, depth, has_others)
+            yield from self._in_sound_part(where, octets, depth, around, usual)
         except _Damaged as why:
             yield Found(where or "mail", "mail", Class.DAMAGED, len(octets), note=str(why))
 
-    def _in_sound_part(self, where: str, octets: bytes, depth: int, has_others: bool) -> Iterator[Found]:
+    def _in_sound_part(self, where: str, octets: bytes, depth: int, around: _Around, usual: str) -> Iterator[Found]:
         if depth > _DEEPEST_PART:
             yield Found(where, "mail", Class.TOO_LARGE, len(octets), note=f"parts are nested more than {_DEEPEST_PART} deep")
             return
         self._source.budget.take(len(octets))
-        part = _part_of(octets)
-        kind = part.headers.get_content_type()
-        if kind in _CMS_TYPES:
+        part = _part_of(octets, usual)
+        around = around.within(part)
+        if part.kind in _CMS_TYPES:
             message = _decoded(part)
-            yield Found(where or "body", f"mail {kind}", Class.MESSAGE, len(message), message, note=_OTHERS if has_others else "")
-        elif kind == "message/rfc822":
-            yield from self._in_part(f"{where}/mail" if where else "mail", _decoded(part), depth + 1)
-        elif part.headers.get_content_maintype() == "multipart":
-            yield from self._in_parts(where, part, kind, depth, has_others)
-        elif _filename(part) or kind in ("application/pdf", "application/zip", "application/octet-stream"):
-            yield from self._in_attachment(where, part)
+            yield Found(where or "body", f"mail {part.kind}", Class.MESSAGE, len(message), message, note=around.note(_of_coding(part)))
+        elif part.kind == "message/rfc822":
+            around = replace(around, has_others=False)
+            if part.coding not in ("7bit", "8bit", "binary"):
+                around = replace(around, notes=(*around.notes, "readers differ on a mail that is said to be encoded"))
+            yield from self._in_part(f"{where}/mail" if where else "mail", _decoded(part), depth + 1, around)
+        elif part.kind.startswith("multipart/"):
+            yield from self._in_parts(where, part, depth, around)
+        elif _filename(part) or part.kind in ("application/pdf", "application/zip", "application/octet-stream"):
+            yield from self._in_attachment(where, part, around)
 
-    def _in_attachment(self, where: str, part: _Part) -> Iterator[Found]:
+    def _in_attachment(self, where: str, part: _Part, around: _Around) -> Iterator[Found]:
         octets = _decoded(part)
         self._source.budget.take(len(octets))
         for it in self._search(in_memory(_filename(part) or "", octets, self._source.budget)):
             if it.what not in (Class.TEXT, Class.NO_CANDIDATE):
-                yield (it.with_content(None) if it.wants else it).within(where or "body")
+                notes = around.notes if it.what is Class.MESSAGE else ()
+                yield (it.with_content(None) if it.wants else it).noted(*notes, _of_coding(part)).within(where or "body")
 
-    def _in_parts(self, where: str, part: _Part, kind: str, depth: int, has_others: bool) -> Iterator[Found]:
-        boundary = part.headers.get_boundary()
-        if not boundary:
+    def _in_parts(self, where: str, part: _Part, depth: int, around: _Around) -> Iterator[Found]:
+        if not part.boundary:
             raise _Damaged("a multipart without a boundary")
-        parts = _parts_in(part.body, str(boundary).encode("utf-8", "surrogateescape"), self._source.budget)
-        if kind == "multipart/signed":
-            yield from self._in_signed(where, list(_first(parts, 3)), depth, has_others)
+        boundary = part.boundary.encode("utf-8", "surrogateescape")
+        around = replace(around, notes=(*around.notes, *_of_delimiters(part, boundary)))
+        parts = _parts_in(part.body, boundary, self._source.budget)
+        if part.kind == "multipart/signed":
+            yield from self._in_signed(where, list(_first(parts, 3)), depth, around)
             return
         some = list(_first(parts, 2))
-        has_others = has_others or len(some) > 1
+        around = replace(around, has_others=around.has_others or len(some) > 1)
+        usual = "message/rfc822" if part.kind == "multipart/digest" else "text/plain"  # RFC 2046, section 5.1.5
         for number, octets in enumerate(chain(some, parts), 1):
-            yield from self._in_part(f"{where}.{number}" if where else f"part {number}", octets, depth + 1, has_others)
+            yield from self._in_part(f"{where}.{number}" if where else f"part {number}", octets, depth + 1, around, usual)
 
-    def _in_signed(self, where: str, parts: List[bytes], depth: int, has_others: bool) -> Iterator[Found]:
+    def _in_signed(self, where: str, parts: List[bytes], depth: int, around: _Around) -> Iterator[Found]:
         """Gives what signs the first part, and what is in that part."""
-        has_others = has_others or len(parts) > 2
-        bound, note = (State.PARTLY, _OTHERS) if has_others else (State.FITS, "")
+        around = replace(around, has_others=around.has_others or len(parts) > 2)
         if len(parts) != 2:
             yield Found(where or "body", "mail multipart/signed", Class.DAMAGED, 0, note="multipart/signed has not two parts")
         signed = parts[0] if parts else b""
+        own = f"{where}.1" if where else "part 1"
         for number, octets in enumerate(parts[1:2], 2):
             place = f"{where}.{number}" if where else f"part {number}"
             part = _part_of(octets)
-            kind = part.headers.get_content_type()
-            if kind in _OPENPGP_TYPES:
+            if part.kind in _OPENPGP_TYPES:
                 yield Found(place, "OpenPGP", Class.OTHER, len(octets), note="a mail signed by OpenPGP")
             else:
-                message = _decoded(part)
-                content = Content(f"{where}.1" if where else "part 1", len(signed), _CanonicalLines(signed), bound, note)
-                yield Found(place, f"mail {kind}", Class.MESSAGE, len(message), message, content, is_detached=True)
-        yield from self._in_part(f"{where}.1" if where else "part 1", signed, depth + 1)
+                yield _signing(place, part, own, signed, around.within(part))
+        yield from self._in_part(own, signed, depth + 1, around)
+
+
+def _signing(where: str, part: _Part, own: str, signed: bytes, around: _Around) -> Found:
+    """Returns what signs a part: with CRLF at the end of each line, or as it is if that is what was signed."""
+    message, canonical = _decoded(part), _CanonicalLines(signed)
+    bound, note = State.PARTLY if around.has_others else State.FITS, around.note(_of_coding(part))
+    found = Found(where, f"mail {part.kind}", Class.MESSAGE, len(message), message, Content(own, len(signed), canonical, bound, note), is_detached=True)
+    if canonical.is_same or _fits(found):
+        return found
+    as_it_is = replace(found.content, pieces=Pieces(signed), note=around.note(_of_coding(part), _WITH_LF))
+    return found._replace(content=as_it_is) if _fits(found._replace(content=as_it_is)) else found
 
 
 def _first(parts: Iterator[bytes], most: int) -> Iterator[bytes]:

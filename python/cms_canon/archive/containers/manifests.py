@@ -4,6 +4,7 @@ from __future__ import annotations
 
 import hashlib
 import posixpath
+import re
 from typing import AbstractSet, Callable, Dict, Iterable, List, NamedTuple, Optional, Sequence, Set, Tuple
 
 from .found import State
@@ -12,6 +13,7 @@ Digest = Callable[[str, Set[str]], Optional[Dict[str, bytes]]]
 """Returns the digests of a file by these algorithms, as hashlib names them; None if there is no such file."""
 NAMED = 3  # files that a note names
 WEAK = {"md5", "sha1"}  # algorithms by which another file with the same digest can be made
+WEAK_ALONE = re.compile(r"compares by (md5|sha1)(?: and (md5|sha1))? alone")  # in a note
 _BAD = [State.FITS, State.PARTLY, State.NOT_COMPARED, State.DIFFERS]  # the last is the worst
 _ALGORITHMS = {
     **{it: it for it in ("md5", "sha1", "sha224", "sha256", "sha384", "sha512")},
@@ -62,13 +64,19 @@ def not_covered(names: Iterable[str]) -> Compared:
     return Compared(State.PARTLY, f"files that no manifest covers: {some}") if some else Compared(State.FITS, "")
 
 
+def said_of(reasons: Dict[str, str]) -> str:
+    """Returns the first of some names, each with what is to be said of it, and how many there are more."""
+    first, more = [f"{name}: {reasons[name]}" for name in sorted(reasons)[:1]], len(reasons) - 1
+    return "".join(first) + (f", and on {more:,} more" if more > 0 else "")
+
+
 def _some(names: Iterable[str]) -> str:
     some = sorted(names)
     return ", ".join(some[:NAMED]) + (f" and {len(some) - NAMED:,} more" if len(some) > NAMED else "")
 
 
 def compared(listed: Sequence[Listed], there: AbstractSet[str], digest: Digest) -> Compared:
-    """Compares the files that are listed with those that are there, by plain names. Each known digest of a file has to fit, and one has to be known."""
+    """Compares the files that are listed with those that are there. Each known digest of a file has to fit, and one has to be known."""
     digests = [it.digests for it in listed]
     if not digests:
         return Compared(State.NOT_COMPARED, "the manifest lists no file")
@@ -82,10 +90,9 @@ def _compared_files(listed: Sequence[Listed], there: AbstractSet[str], digest: D
     unknown: List[str] = []
     left = set(there)
     for it in listed:
-        name = plain(it.name)
-        left.discard(name)
+        left.discard(it.name)
         known = [(algorithm, wanted) for algorithm, wanted in it.digests if algorithm is not None]
-        came = digest(name, {algorithm for algorithm, _ in known})
+        came = digest(it.name, {algorithm for algorithm, _ in known})
         if came is None or any(came[algorithm] != wanted for algorithm, wanted in known):
             differs.append(it.name)
         elif not known:

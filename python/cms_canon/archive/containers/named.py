@@ -1,14 +1,30 @@
-"""Signed formats that hold no CMS which can be converted: they are named as what they are."""
+"""Signed formats that hold no CMS which can be converted, and formats that are not looked into: they are named as what they are."""
 
 from __future__ import annotations
 
+import re
 import struct
-from typing import Optional
+from typing import Dict, Optional
+
+import cms_canon
 
 from .found import Class, Found
 from .sources import Source
 
 _OPENPGP_ENDINGS = (".sig", ".gpg", ".pgp", ".asc")
+_ARCHIVES = {
+    b"7z\xbc\xaf\x27\x1c": "7z", b"Rar!\x1a\x07": "RAR", b"MSCF": "cab", b"!<arch>\ndebian-binary": "deb", b"!<arch>\n": "ar",
+}
+_OLE = b"\xd0\xcf\x11\xe0\xa1\xb1\x1a\xe1"
+_OLE_ENDINGS = {".msi": "MSI", ".msp": "MSI", ".msg": "Outlook message"}
+_PROGRAMS = (b"MZ", b"\x7fELF", b"#!")
+_END_OF_ZIP = re.compile(rb"(?s)PK\x05\x06.{8}(....)(....)..")
+_LONGEST_END = 22 + 0xFFFF  # octets of the end of a zip, with its comment
+_LENGTH = rb"(?:[\0-\x7f]|\x81.|\x82..|\x83...|\x84....|\x80)"
+_TIME_STAMPED_DATA = re.compile(rb"(?s)\x30" + _LENGTH + rb"\x06\x0b\x2a\x86\x48\x86\xf7\x0d\x01\x09\x10\x01\x1f\xa0")
+_EVIDENCE_RECORD = re.compile(rb"(?s)\x30" + _LENGTH + rb"\x02\x01\x01\x30" + _LENGTH + rb"(?=\x30" + _LENGTH + rb"\x06)")
+_XML_EVIDENCE_RECORD = b"urn:ietf:params:xml:ns:ers"
+_XADES = b"http://uri.etsi.org/01903/"
 _XML_SIGNATURE = (b"http://www.w3.org/2000/09/xmldsig#", b"SignatureValue")
 _SECURITY = 4  # the number of the data directory of a PE that says where its signatures are
 _PE = b"PE\0\0"
@@ -42,6 +58,71 @@ def openpgp(source: Source) -> Optional[Found]:
     return Found("", "OpenPGP", Class.OTHER, source.size) if tag in (2, 4) else None
 
 
-def xml_signature(octets: bytes) -> bool:
-    """Whether a text in XML has a signature of its own (XMLDSig, XAdES)."""
-    return all(it in octets for it in _XML_SIGNATURE)
+def in_xml(octets: bytes) -> Optional[Found]:
+    """Returns what a text in XML is that has a signature of its own (XMLDSig, XAdES) or is an evidence record (RFC 6283)."""
+    if all(it in octets for it in _XML_SIGNATURE):
+        return Found("", "XAdES" if _XADES in octets else "XML signature", Class.OTHER, len(octets))
+    return Found("", "evidence record", Class.OTHER, len(octets), note="in XML") if _XML_EVIDENCE_RECORD in octets else None
+
+
+def in_asn_1(source: Source) -> Optional[Found]:
+    """Returns what a file is that begins as data that are time-stamped (RFC 5544) or as an evidence record (RFC 4998)."""
+    if _TIME_STAMPED_DATA.match(source.head):
+        return Found("", "TimeStampedData", Class.OTHER, source.size)
+    begin = _EVIDENCE_RECORD.match(source.head)
+    is_record = begin and not _is_imprint(source.head, begin.end()) and _is_refused(source.octets())
+    return Found("", "evidence record", Class.OTHER, source.size) if is_record else None
+
+
+def _is_imprint(octets: bytes, at: int) -> bool:
+    """Whether after the algorithm that begins there a digest follows, as in a request, which begins as an evidence record does."""
+    length = octets[at + 1]
+    more = length & 0x7F if length & 0x80 else 0
+    after = at + 2 + more + (int.from_bytes(octets[at + 2 : at + 2 + more], "big") if more else length)
+    return octets[after : after + 1] in (b"\x04", b"\x24")
+
+
+def _is_refused(octets: bytes) -> bool:
+    try:
+        cms_canon.convert(octets)
+    except cms_canon.Refused:
+        return True
+    return False
+
+
+def archive(source: Source) -> Optional[Found]:
+    """Returns what a file is if it is an archive or a document of a format that is not looked into."""
+    form = next((it for magic, it in _ARCHIVES.items() if source.head.startswith(magic)), None)
+    if source.head.startswith(_OLE):
+        form = _OLE_ENDINGS.get(source.name.lower()[-4:], "OLE document")
+    return Found("", form, Class.NOT_LOOKED_INTO, source.size) if form else None
+
+
+def self_extracting(source: Source) -> Optional[Found]:
+    """Returns what a program is after which a zip follows."""
+    if not source.head.startswith(_PROGRAMS):
+        return None
+    tail = source.tail(_LONGEST_END)
+    for it in _END_OF_ZIP.finditer(tail):
+        octets, at = (int.from_bytes(number, "little") for number in it.groups())
+        if octets and octets + at <= source.size:
+            return Found("", "self-extracting zip", Class.NOT_LOOKED_INTO, source.size)
+    return None
+
+
+APK_BLOCK = b"APK Sig Block 42"
+_APK_SCHEMES: Dict[int, str] = {0x7109871A: "2", 0xF05368C0: "3", 0x1B93AD61: "3.1"}
+
+
+def apk_block(octets: bytes) -> Optional[Found]:
+    """Returns what is signed by the schemes of APK that sign the whole file, if its octets before the list of members end with their block."""
+    if not octets.endswith(APK_BLOCK) or len(octets) < 32:
+        return None
+    length = int.from_bytes(octets[-24:-16], "little")
+    at, schemes = max(0, len(octets) - length), []
+    while at + 12 <= len(octets) - 24:
+        pair, key = int.from_bytes(octets[at : at + 8], "little"), int.from_bytes(octets[at + 8 : at + 12], "little")
+        schemes += [_APK_SCHEMES[key]] if key in _APK_SCHEMES else []
+        at += 8 + max(pair, 4)
+    note = f"scheme {', '.join(schemes)}" if schemes else "no scheme that is known"
+    return Found("APK signing block", "APK signing block", Class.OTHER, length + 8, note=note)

@@ -11,16 +11,19 @@ import bz2
 import gzip
 import io
 import lzma
-import posixpath
 import re
 import tarfile
 import zlib
 from contextlib import contextmanager
 from dataclasses import replace
-from typing import Any, BinaryIO, Callable, Dict, Iterator, List, NamedTuple, Optional, Set
+from functools import cached_property
+from typing import Any, BinaryIO, Callable, Dict, Iterator, List, NamedTuple, Optional, Set, Tuple
 
 from .found import Class, Content, Found, Pieces, State
-from .sources import MOST_IN_MEMORY, PIECE, Budget, Ended, Source, TooLarge
+from .names import differing, path_of
+from .replaced import Replaced
+from .sources import MOST_IN_MEMORY, PIECE, Budget, Ended, Source, TooLarge, TooMuch, in_memory
+from .tar_headers import are_odd_values, is_odd, suit
 
 Search = Callable[[Source], Iterator[Found]]
 
@@ -34,6 +37,7 @@ _HEADERS_WITH_VALUES = (
     *(tarfile.GNUTYPE_LONGNAME, tarfile.GNUTYPE_LONGLINK),
     *(tarfile.XHDTYPE, tarfile.XGLTYPE, tarfile.SOLARIS_XHDTYPE),
 )
+_HEADERS_BEFORE = {b"x", b"L", b"K", b"LK", b"KL", b"g", b"xg"}  # the last lies first
 
 
 class Damaged(Exception):
@@ -100,13 +104,24 @@ class _Forward(io.RawIOBase):
         self._budget = budget
         self._is_seekable = is_seekable
         self._at = 0
+        self._ahead = b""
         self.last = b""
 
     def read(self, size: int = -1) -> bytes:
-        octets = self._file.read(PIECE if size < 0 else min(size, PIECE))
-        self._budget.take(len(octets))
+        size = PIECE if size < 0 else min(size, PIECE)
+        octets, self._ahead = self._ahead[:size], self._ahead[size:]
+        if len(octets) < size:
+            more = self._file.read(size - len(octets))
+            self._budget.take(len(more))
+            octets += more
         self._at += len(octets)
         self.last = octets
+        return octets
+
+    def peek(self, size: int) -> bytes:
+        """Returns what the next call reads."""
+        self._ahead = octets = self.read(size)
+        self._at -= len(octets)
         return octets
 
     def take(self, octets: int) -> None:
@@ -119,6 +134,10 @@ class _Forward(io.RawIOBase):
     def seek(self, at: int, whence: int = io.SEEK_SET) -> int:
         if whence != io.SEEK_SET or at < self._at and not self._is_seekable:
             raise Damaged("it goes back")
+        if at != self._at and self._ahead:
+            self._ahead = b""
+            if not self._is_seekable:
+                raise Damaged("it was read ahead")
         if self._is_seekable:
             self._at = self._file.seek(at)
         while self._at < at and self.read(min(at - self._at, PIECE)):
@@ -163,11 +182,21 @@ def _sum_of(octets: bytes) -> int:
 
 
 class _Header(tarfile.TarInfo):
-    """A header of a tar that takes no more memory and time than it may."""
+    """A header of a tar that takes no more memory and time than it may, and on which readers may differ if it is odd."""
+
+    is_odd = False
+    before: bytes = b""
+    """The kinds of the headers with values that lie before it."""
 
     @classmethod
     def frombuf(cls, buf: bytes, encoding: str, errors: str) -> tarfile.TarInfo:
         """Returns the same as `tarfile` does: in a third of the time, if the header is written as all programs write those of files."""
+        header = cls._frombuf(buf, encoding, errors)
+        header.is_odd = is_odd(buf)
+        return header
+
+    @classmethod
+    def _frombuf(cls, buf: bytes, encoding: str, errors: str) -> Any:
         plain = _PLAIN_HEADER.match(buf)
         if plain is None or len(buf) != _BLOCK:
             return super().frombuf(buf, encoding, errors)
@@ -183,20 +212,27 @@ class _Header(tarfile.TarInfo):
     def _proc_member(self, file: tarfile.TarFile) -> tarfile.TarInfo:
         if len(file.pax_headers) > len(_KEPT):  # tarfile would go through all of them for each member
             file.pax_headers = {key: file.pax_headers[key] for key in file.pax_headers.keys() & _KEPT}
+        values = b""
         if self.type in _HEADERS_WITH_VALUES:
             if not 0 <= self.size <= LONGEST_HEADER:
                 raise Damaged("a header is too long")
             file.fileobj.take(_TIMES_A_HEADER * self.size)
+            values = file.fileobj.peek(self.size)
+            self.is_odd |= are_odd_values(self.type, values)
         if self.type == tarfile.GNUTYPE_SPARSE:
             raise Damaged("a member is sparse")
-        return super()._proc_member(file)
+        member: Any = super()._proc_member(file)
+        if member is not self:
+            member.before += self.type
+            member.is_odd |= self.is_odd or member.before not in _HEADERS_BEFORE or not suit(self.type, values, member)
+        return member
 
     def _proc_gnusparse_10(self, *_) -> None:
         raise Damaged("a member is sparse")
 
 
 class Tar:
-    """A tar that is read once, and once more if it has contents for the messages in it."""
+    """A tar that is read once; if it has messages, its headers once more; and once more each for hard links and for contents of the messages."""
 
     def __init__(self, source: Source, packing: Optional[Packing], search: Search) -> None:
         self._source = source
@@ -211,6 +247,7 @@ class Tar:
         damage: Optional[Exception] = None
         try:
             yield from self._in_members()
+            yield from self._in_hard_links()
         except Ended:
             yield from self._without_contents()
             raise
@@ -220,6 +257,32 @@ class Tar:
             yield from self._with_contents()
         if damage is not None:
             raise damage
+
+    @cached_property
+    def _replaced(self) -> Replaced:
+        """What is known of the names of all members."""
+        found = Replaced()
+        with self._source.aside():
+            try:
+                self._add_headers(found)
+            except TooMuch:
+                found.doubt("what follows what was read")
+            except (Ended, MemoryError):
+                raise
+            except Exception:
+                found.doubt("what follows its damage")
+        found.end()
+        return found
+
+    def _add_headers(self, found: Replaced) -> None:
+        with self._opened() as blocks:
+            for member, _ in self._headers(blocks):
+                found.add(member)
+                if member.is_odd:
+                    found.doubt(f"{member.name}: some readers read its header otherwise")
+            while piece := blocks.read(PIECE):
+                if piece.count(0) != len(piece):
+                    found.doubt("what follows its end")
 
     def _in_members(self) -> Iterator[Found]:
         for member, file in self._members():
@@ -231,27 +294,44 @@ class Tar:
             except Exception as why:
                 yield Found(name, "file", Class.DAMAGED, member.size, note=why_of(why))
 
+    def _in_hard_links(self) -> Iterator[Found]:
+        """Gives the messages in members once more under the names of the hard links to them."""
+        if "_replaced" not in self.__dict__ or not self._replaced.hard_links:
+            return
+        for member, file in self._members():
+            names = self._replaced.hard_links.get(path_of(member.name), ())
+            octets = self._source.budget.read(file, MOST_IN_MEMORY) if names else b""
+            for name in names:
+                found = self._search(in_memory(name, octets, self._source.budget))
+                yield from self._each(name, (it for it in found if it.what in (Class.MESSAGE, Class.CONTAINER)))
+
     def _each(self, name: str, found: Iterator[Found]) -> Iterator[Found]:
         for it in found:
+            if it.what is Class.MESSAGE:
+                it = it.noted(differing(name, self._replaced.reason(name)))
             wants, whole = it.wants, it.within(name)
             octets = len(it.octets or b"")
             if wants and self._octets_waiting + octets <= MOST_WAITING:
                 self._octets_waiting += octets
-                self._waiting.setdefault(posixpath.normpath(wants), []).append(whole)
+                self._waiting.setdefault(path_of(wants), []).append(whole)
             else:
                 yield whole.with_content(None) if wants else whole
 
     def _with_contents(self) -> Iterator[Found]:
         """Gives the messages once for each member of the name that they want: of several, each may be the one that was signed."""
+        wanted: Dict[str, List[str]] = {}
+        for name in self._waiting:
+            for path in {name, self._replaced.targets.get(name, name)}:
+                wanted.setdefault(path, []).append(name)
         try:
             for member, file in self._members():
-                name = posixpath.normpath(member.name)
-                if name in self._waiting:
-                    content = content_read(name, member.size, file, self._source.budget)
-                    if name in self._with_content:
-                        content = replace(content, note=content.note or "another member of this name lies before it")
+                path = path_of(member.name)
+                names = wanted.get(path, [])
+                content = content_read(path, member.size, file, self._source.budget) if names else None
+                for name in names if content else ():
                     self._with_content.add(name)
-                    yield from (it.with_content(content) for it in self._waiting[name])
+                    noted = replace(content, where=name, note=content.note or differing(name, self._replaced.reason(name)))
+                    yield from (it.with_content(noted) for it in self._waiting[name])
         except Ended:
             yield from self._without_contents()
             raise
@@ -264,19 +344,24 @@ class Tar:
             if name not in self._with_content:
                 yield from (it.with_content(None) for it in some)
 
+    def _headers(self, blocks: _Forward) -> Iterator[Tuple[Any, tarfile.TarFile]]:
+        """Gives each member. Raises `Damaged` if the tar cannot be read to its end."""
+        with tarfile.open(fileobj=blocks, mode="r:", tarinfo=_Header) as file:
+            for member in file:
+                self._source.budget.take_member()
+                if member.size < 0:  # tarfile would go back, and read the same member for ever
+                    raise Damaged("a member has a negative length")
+                yield member, file
+                file.members = []  # tarfile would keep all of them
+            if blocks.tell() != file.offset + _BLOCK or blocks.last != bytes(_BLOCK):  # tarfile takes any other block for the end too
+                raise Damaged("no end mark follows the last member")
+
     def _members(self) -> Iterator[Any]:
-        """Gives each regular file with what reads it. Raises `Damaged` if it cannot be read to its end."""
+        """Gives each file with what reads it: POSIX has a member of an unknown type taken for a file. Raises the same."""
         with self._opened() as blocks:
-            with tarfile.open(fileobj=blocks, mode="r:", tarinfo=_Header) as file:
-                for member in file:
-                    self._source.budget.take_member()
-                    if member.size < 0:  # tarfile would go back, and read the same member for ever
-                        raise Damaged("a member has a negative length")
-                    if member.isfile():
-                        yield member, file.extractfile(member)
-                    file.members = []  # tarfile would keep all of them
-                if blocks.tell() != file.offset + _BLOCK or blocks.last != bytes(_BLOCK):  # tarfile takes any other block for the end too
-                    raise Damaged("no end mark follows the last member")
+            for member, file in self._headers(blocks):
+                if member.isfile() or member.type not in tarfile.SUPPORTED_TYPES:
+                    yield member, file.extractfile(member)
 
     @contextmanager
     def _opened(self) -> Iterator[_Forward]:

@@ -7,7 +7,8 @@ proportion to the file.
 from __future__ import annotations
 
 import io
-from typing import BinaryIO, Optional
+from contextlib import contextmanager
+from typing import BinaryIO, Iterator, Optional
 
 import cms_canon
 
@@ -16,7 +17,10 @@ PIECE = 1 << 20  # octets that are read at once
 MOST_IN_MEMORY = cms_canon.LIMIT + 1  # octets of a file or member that is read as a whole: a message with more is refused for that
 FREE = 1 << 30  # octets that may be read of any file, unpacked, and so many times its size more
 TIMES_THE_SIZE = 64
-MOST_MEMBERS = 10_000_000  # of one file, with those of members inside it
+MOST_MEMBERS = 500_000  # of any file, with those of members inside it, and so many more as it has times so many octets
+OCTETS_OF_A_MEMBER = 128
+MOST_PARTS = 100_000  # sections, lines and elements of the manifests in any file, and likewise
+OCTETS_OF_A_PART = 8
 DEEPEST = 4  # packed files inside one another
 DEEPEST_MAIL = 20  # mails inside one another
 TEXT = bytes({*range(0x20, 0x7F), *range(0x80, 0x100), *b"\t\n\r\f\b\x1b"})  # octets that a text may have
@@ -40,7 +44,8 @@ class Budget:
     def __init__(self, size: int) -> None:
         """Makes the budget of a file with so many octets."""
         self._most = self._octets = FREE + TIMES_THE_SIZE * size
-        self._members = MOST_MEMBERS
+        self._most_members = self._members = MOST_MEMBERS + size // OCTETS_OF_A_MEMBER
+        self._most_parts = self._parts = MOST_PARTS + size // OCTETS_OF_A_PART
 
     def take(self, octets: int) -> None:
         """Takes so many octets. Raises `TooMuch` if they are not left."""
@@ -52,7 +57,13 @@ class Budget:
         """Takes one member. Raises `TooMuch` if none is left."""
         self._members -= 1
         if self._members < 0:
-            raise TooMuch(f"it has more than {MOST_MEMBERS:,} members")
+            raise TooMuch(f"it has more than {self._most_members:,} members")
+
+    def take_parts(self, parts: int) -> None:
+        """Takes so many sections, lines or elements of manifests. Raises `TooMuch` if they are not left."""
+        self._parts -= parts
+        if self._parts < 0:
+            raise TooMuch(f"its manifests have more than {self._most_parts:,} parts")
 
     def read(self, file: BinaryIO, most: int) -> bytes:
         """Reads the rest of a file, of at most so many octets, by pieces. Raises `TooLarge` if there are more."""
@@ -89,6 +100,21 @@ class Source:
             self.size = len(self._octets)
         return self._octets
 
+    def tail(self, most: int) -> bytes:
+        """Returns the last octets, at most so many. What is read forward is read to its end for that, and cannot be read again."""
+        if self._octets is not None:
+            return self._octets[-most:]
+        if self._is_seekable:
+            self._file.seek(max(0, self.size - most))
+            octets = self._file.read(most)
+            self.budget.take(len(octets))
+            return octets
+        last = self.head[-most:]
+        while piece := self._file.read(PIECE):
+            self.budget.take(len(piece))
+            last = (last + piece)[-most:]
+        return last
+
     def _read_at_once(self) -> bytes:
         """Returns all of a file whose size is known, of which pieces would take twice the memory."""
         self._file.seek(0)
@@ -106,6 +132,14 @@ class Source:
             return io.BytesIO(self.octets())
         self._file.seek(0)
         return self._file
+
+    @contextmanager
+    def aside(self) -> Iterator[None]:
+        """Lets the file be read from its beginning meanwhile."""
+        at = self._file.tell() if self._is_seekable else 0
+        yield
+        if self._is_seekable:
+            self._file.seek(at)
 
     def inner(self, name: str, file: BinaryIO, size: int) -> Source:
         """Returns a member as a source within the same budget."""

@@ -3,17 +3,19 @@
 from __future__ import annotations
 
 import hashlib
+import io
 import re
 import struct
 import zipfile
-from collections import Counter
 from dataclasses import replace
 from functools import cached_property
-from typing import BinaryIO, Callable, Dict, FrozenSet, Iterator, List, NamedTuple, Optional, Set
+from typing import IO, BinaryIO, Callable, Dict, FrozenSet, Iterator, List, Optional, Set
 
-from . import asic, jar
+from . import asic, jar, named
 from .found import Class, Content, Found, State
-from .manifests import Compared, at_best, compared, not_covered, plain
+from .layout import ENTRY_MAGIC, LOCATORS, End, Layout, end_of, layout_of
+from .manifests import Compared, at_best, compared, not_covered, plain, said_of
+from .names import READERS_DIFFER, differing
 from .packed import Damaged, content_read, why_of
 from .sources import MOST_IN_MEMORY, PIECE, Budget, Ended, Source, TooLarge
 
@@ -23,16 +25,18 @@ ENDINGS = (".zip", ".jar", ".war", ".apk", ".xpi", ".asics", ".asice", ".scs", "
 MAGICS = (b"PK\3\4", b"PK\5\6")
 MOST_IN_DIRECTORY = 128 << 20  # octets of the list of members, which is read at once
 MOST_IN_ZIP = 250_000  # members of one zip, for each of which zipfile makes an object
+MOST_OF_A_BLOCK = 1 << 20  # octets before the list of members in which it is looked for which schemes of APK there are
 MOST_SIGNATURES = 1000  # of one JAR or ASiC container that are compared with its members
+MOST_SECTIONS = 1000  # of a manifest of a JAR, and two more for each member
 _OCTETS_OF_A_NAME = 64  # that count as read if a signature is compared with a member
-_END_MAGIC, _ENTRY_MAGIC = b"PK\5\6", b"PK\1\2"
-_LOCATORS = 76  # octets between the list of members and the end, if numbers have 64 bits
 _META_INF = "META-INF/"
-_END = struct.Struct("<4s4H2LH")
-_END_64 = struct.Struct("<4sQ2H2L4Q")
+_WITH_MEANING = (_META_INF, "ANDROIDMANIFEST.XML")
 _OOXML = re.compile(r"_xmlsignatures/[^/]+\.xml\Z", re.I)
 _ODF = "META-INF/documentsignatures.xml"
-_TWICE = "two members have one name"
+NO_NAME = "(no name)"
+_UTF_8 = 0x800  # of the flags of a member: its name is in UTF-8
+_OCTETS_OF_AN_ENTRY = 46  # without its name and what follows it
+_ENTRY = struct.Struct("<4s4xH18xHHH")  # of the list of members: the mark, the flags, and the octets of the name and of what follows it
 
 
 def is_zip(source: Source) -> bool:
@@ -40,76 +44,85 @@ def is_zip(source: Source) -> bool:
     return source.head[:4] in MAGICS or source.name.lower().endswith(ENDINGS)
 
 
-class _End(NamedTuple):
-    """What the end of a zip says: where its list of members ends, how many octets that has, and how many follow the end."""
-
-    at: int
-    octets: int
-    after: int
-
-
-def _end_of(file: BinaryIO) -> _End:
-    """Returns what the end of a zip says, which is looked for as zipfile does."""
-    size = file.seek(0, 2)
-    before = max(0, size - 65_600)
-    file.seek(before)
-    end = file.read()
-    is_last = end[-_END.size :].startswith(_END_MAGIC) and end.endswith(b"\0\0")
-    at = len(end) - _END.size if is_last else end.rfind(_END_MAGIC)
-    if at < 0 or len(end) < at + _END.size:
-        return _End(0, 0, 0)  # zipfile says what is wrong with it
-    octets, _, comment = _END.unpack_from(end, at)[5:]
-    at_64 = end.rfind(b"PK\6\6", 0, at)
-    if octets == 0xFFFFFFFF and at_64 >= 0 and len(end) >= at_64 + _END_64.size:
-        octets = _END_64.unpack_from(end, at_64)[8]
-    return _End(before + at, octets, max(0, len(end) - at - _END.size - comment))
-
-
-def _refuse_many(file: BinaryIO, end: _End, budget: Budget) -> None:
+def _refuse_many(file: BinaryIO, end: End, budget: Budget) -> None:
     """Raises `TooLarge` if a zip has more members than zipfile may make objects for. How many it says that it has is not believed."""
     if end.octets > MOST_IN_DIRECTORY:
         raise TooLarge(f"its list of members has more than {MOST_IN_DIRECTORY:,} octets")
-    begin = max(0, end.at - end.octets - _LOCATORS)
+    begin = max(0, end.at - end.octets - LOCATORS)
     budget.take(end.at - begin)
     file.seek(begin)
-    if file.read(end.at - begin).count(_ENTRY_MAGIC) > MOST_IN_ZIP:
+    if file.read(end.at - begin).count(ENTRY_MAGIC) > MOST_IN_ZIP:
         raise TooLarge(f"it has more than {MOST_IN_ZIP:,} members")
+
+
+class _Unpacked(io.RawIOBase):
+    """A member as it is unpacked. zipfile takes the end of the packed octets for the end of the member; other readers want the mark of its end."""
+
+    def __init__(self, member: IO[bytes]) -> None:
+        self._member = member
+
+    def read(self, size: int = -1) -> bytes:
+        octets = self._member.read(size)
+        if not octets and size and not getattr(getattr(self._member, "_decompressor", None), "eof", True):
+            raise Damaged("its packed octets have no end")
+        return octets
+
+    def close(self) -> None:
+        self._member.close()
 
 
 class _Zip:
     """A zip that is open, and what its names say of it."""
 
-    def __init__(self, source: Source, file: zipfile.ZipFile, after: int) -> None:
+    def __init__(self, source: Source, file: zipfile.ZipFile, end: End) -> None:
         self.source = source
         self.file = file
         self.infos = {it.filename: it for it in file.infolist()}  # of equal names the last, as Java has it
-        self._plain = {plain(name): name for name in self.infos if not name.endswith("/")}
-        names = Counter(plain(it.filename) for it in file.infolist() if not it.is_dir())
-        self.twice = {name for name, number in names.items() if number > 1}
-        self._by_capitals = {name.upper(): name for name in self.infos}
+        self._by_capitals = {capitals: name for name in self.infos if (capitals := name.upper()).startswith(_WITH_MEANING)}
         self._digests: Dict[str, Dict[str, bytes]] = {}
         self._signatures = 0
+        self._end = end
         before = min((it.header_offset for it in file.infolist()), default=0)
-        some = (before, "lie before the first member"), (after, "follow the end")
+        some = (before, "lie before the first member"), (end.after, "follow the end")
         self.around = "; ".join(f"{octets:,} octets {where}" for octets, where in some if octets)
 
     @cached_property
+    def _plain(self) -> Dict[str, str]:
+        return {plain(name): name for name in self.infos if not name.endswith("/")}
+
+    @cached_property
+    def layout(self) -> Layout:
+        """On what of it readers may differ. This is looked for only in a zip in which there is a message."""
+        return layout_of(self.source.begun(), self._end, self.file.infolist(), self.source.budget)
+
+    @cached_property
     def why_unclear(self) -> str:
-        """Why programs differ in which members they take; empty if they do not."""
+        """Why readers differ in which members they take; empty if they do not."""
         own = [it.upper() for it in self.infos if it.upper().startswith(_META_INF)]
-        if self.twice or len(self.infos) != len(self.file.infolist()):
-            return _TWICE
+        if self.layout.whole:
+            return READERS_DIFFER + self.layout.whole
+        if self.layout.same or len(self.infos) != len(self.file.infolist()):
+            return READERS_DIFFER + said_of(self.layout.same)
         return "two names in META-INF differ in capitals alone" if len(set(own)) != len(own) else ""
 
     @property
     def note(self) -> str:
-        return "; ".join(filter(None, (self.why_unclear, self.around)))
+        """What is to be said of it, as far as it was looked for."""
+        return "; ".join(filter(None, (self.why_unclear if "layout" in self.__dict__ else "", self.around)))
 
     def judged(self, came: Compared) -> Compared:
         """Returns what came of comparing files, at best as is so of the whole zip."""
         if self.around:
             came = at_best(came, State.PARTLY, self.around)
+        if self.layout.named:
+            came = at_best(came, State.FITS, READERS_DIFFER + said_of(self.layout.named))
+        if self.layout.apk_block:
+            came = at_best(came, State.FITS, f"an APK signing block of {len(self.layout.apk_block):,} octets is not looked into")
         return at_best(came, State.NOT_COMPARED, self.why_unclear) if self.why_unclear else came
+
+    def reason(self, name: str) -> str:
+        """Returns what is to be said of a message in the member of this name, or of a content that it is."""
+        return "; ".join(filter(None, (differing(name, self.layout.reason(name)), self.around)))
 
     def takes_signature(self) -> bool:
         """Whether one more signature may be compared with all members; each takes from the budget what that costs."""
@@ -120,26 +133,35 @@ class _Zip:
         return True
 
     def named(self, name: str) -> Optional[str]:
-        """Returns the name of a member, written in whatever capitals."""
+        """Returns the name of a member that says what kind of file it is, written in whatever capitals."""
         return self._by_capitals.get(name.upper())
 
-    def plainly(self, name: str) -> Optional[zipfile.ZipInfo]:
-        """Returns the member of a plain name."""
-        return self.infos[self._plain[name]] if name in self._plain else None
+    def plainly(self, name: str) -> Optional[str]:
+        """Returns the name of the member of a plain name."""
+        return name if name in self.infos else self._plain.get(name)
+
+    def opened(self, info: zipfile.ZipInfo) -> _Unpacked:
+        """Opens a member. If it has more octets than both headers say, zipfile would stop at these, where other readers do not: so it gets the
+        chance to see one octet more, of which the check sum then is another."""
+        info.file_size += 1
+        try:
+            return _Unpacked(self.file.open(info))
+        finally:
+            info.file_size -= 1
 
     def read(self, info: zipfile.ZipInfo) -> bytes:
-        with self.file.open(info) as member:
+        with self.opened(info) as member:
             return self.source.budget.read(member, MOST_IN_MEMORY)
 
     def digest(self, name: str, algorithms: Set[str]) -> Optional[Dict[str, bytes]]:
-        """Returns the digests of the member of a plain name, which is read once for each set of them; None if it is not there."""
-        info = self.plainly(name)
+        """Returns the digests of a member, which is read once for each set of them; None if it is not there."""
+        info = self.infos.get(name)
         if info is None:
             return None
         known = self._digests.setdefault(name, {})
         if missing := algorithms - set(known):
             digests = {it: hashlib.new(it) for it in missing}
-            with self.file.open(info) as member:
+            with self.opened(info) as member:
                 while piece := member.read(PIECE):
                     self.source.budget.take(len(piece))
                     for it in digests.values():
@@ -147,11 +169,21 @@ class _Zip:
             known.update({it: digests[it].digest() for it in missing})
         return known
 
+    def digest_plainly(self, name: str, algorithms: Set[str]) -> Optional[Dict[str, bytes]]:
+        """Returns the same of the member of a plain name."""
+        found = self.plainly(name)
+        return None if found is None else self.digest(found, algorithms)
+
     @cached_property
     def manifest(self) -> Optional[jar.Manifest]:
         """The manifest of a JAR."""
         name = self.named("META-INF/MANIFEST.MF")
-        return jar.Manifest(self.read(self.infos[name])) if name else None
+        return jar.Manifest(self.read(self.infos[name]), self.limits) if name else None
+
+    @property
+    def limits(self) -> jar.Limits:
+        """How much of a manifest may be read: it lists members, also some that are gone."""
+        return jar.Limits(self.source.budget, MOST_SECTIONS + 2 * len(self.infos))
 
     @cached_property
     def files(self) -> List[str]:
@@ -189,27 +221,77 @@ class _Zip:
 def in_zip(source: Source, search: Search) -> Iterator[Found]:
     """Gives what is signed in a zip, and what its members are; last the zip itself, with what kind of file it is."""
     file = source.begun()
-    end = _end_of(file)
+    end = end_of(file)
     _refuse_many(file, end, source.budget)
-    with zipfile.ZipFile(file) as opened:
-        whole = _Zip(source, opened, end.after)
+    with _opened(source, file, end) as opened:
+        for nameless in (it for it in opened.infolist() if not it.filename):
+            nameless.filename = NO_NAME  # or zipfile would look for its last character
+        whole = _Zip(source, opened, end)
         manifests = _manifests_of(whole)
         for info in opened.infolist():
             source.budget.take_member()
-            if info.is_dir():
+            if info.is_dir() and not info.file_size:
                 continue
             name = info.filename
             try:
                 yield from _in_member(whole, name, info, manifests, search)
             except (Ended, MemoryError):
                 raise
+            except TooLarge as why:
+                yield Found(name, "file", Class.TOO_LARGE, info.file_size, note=str(why))
             except Exception as why:  # zipfile and what it calls raise errors of any kind for a file that is damaged
-                yield Found(name, "file", Class.UNREADABLE if info.flag_bits & 1 else Class.DAMAGED, info.file_size, note=why_of(why))
+                what, note = (Class.UNREADABLE, "it is encrypted") if info.flag_bits & 1 else (Class.DAMAGED, why_of(why))
+                yield Found(name, "file", what, info.file_size, note=note)
+        if (block := _apk_block(source, opened.start_dir)) is not None:
+            yield block
         yield Found("", whole.form, Class.EMPTY, source.size, note=whole.note)
 
 
+def _opened(source: Source, file: BinaryIO, end: End) -> zipfile.ZipFile:
+    """Opens a zip. A name that is said to be in UTF-8 and is not is read as one that is not said to be, which zipfile would not do."""
+    try:
+        return zipfile.ZipFile(file)
+    except UnicodeDecodeError:
+        octets = bytearray(source.octets())
+    at = end.at - end.octets
+    while octets.startswith(ENTRY_MAGIC, at):
+        _, flags, *lengths = _ENTRY.unpack_from(octets, at)
+        begin = at + _OCTETS_OF_AN_ENTRY
+        if flags & _UTF_8 and not _is_utf_8(octets[begin : begin + lengths[0]]):
+            struct.pack_into("<H", octets, at + 8, flags & ~_UTF_8)
+        at = begin + sum(lengths)
+    whole = io.BytesIO(octets)
+    opened = zipfile.ZipFile(whole)
+    with whole.getbuffer() as view:
+        for it in opened.infolist():
+            place = it.header_offset + 7  # of the flags before the member itself
+            if not it.flag_bits & _UTF_8 and place < len(view):
+                view[place] &= ~(_UTF_8 >> 8) & 0xFF
+    return opened
+
+
+def _is_utf_8(octets: bytes) -> bool:
+    try:
+        octets.decode()
+    except UnicodeDecodeError:
+        return False
+    return True
+
+
+def _apk_block(source: Source, end: int) -> Optional[Found]:
+    """Returns the block before the list of members that signs all of an APK."""
+    file = source.begun()
+    file.seek(max(0, end - len(named.APK_BLOCK)))
+    if file.read(len(named.APK_BLOCK)) != named.APK_BLOCK:
+        return None
+    file.seek(max(0, end - MOST_OF_A_BLOCK))
+    octets = file.read(min(end, MOST_OF_A_BLOCK))
+    source.budget.take(len(octets))
+    return named.apk_block(octets)
+
+
 def _in_member(
-    whole: _Zip, name: str, info: zipfile.ZipInfo, manifests: Dict[str, asic.Manifest], search: Search
+    whole: _Zip, name: str, info: zipfile.ZipInfo, manifests: Dict[str, List[asic.Manifest]], search: Search
 ) -> Iterator[Found]:
     signature_name = jar.stem_of(name) if whole.form in ("JAR", "APK") else None
     if signature_name is None and not asic.SIGNATURE.match(name):
@@ -233,22 +315,26 @@ def _in_unsigning(whole: _Zip, name: str, info: zipfile.ZipInfo, search: Search)
 def _in_other(whole: _Zip, name: str, info: zipfile.ZipInfo, search: Search) -> Iterator[Found]:
     """Gives what another member is. Of what is signed as one file, only members in which there is something are said."""
     is_said = whole.form == "zip"
-    with whole.file.open(info) as member:
+    with whole.opened(info) as member:
         for it in search(whole.source.inner(name, member, info.file_size)):
             if it.wants:
                 it = it.with_content(_content_for(whole, plain(it.wants)))
+            if it.what is Class.MESSAGE:
+                it = it.noted(whole.reason(name))
             if is_said or it.what not in (Class.TEXT, Class.NO_CANDIDATE):
                 yield it.within(name)
 
 
 def _content_for(whole: _Zip, name: str) -> Optional[Content]:
-    info = whole.plainly(name)
-    if info is None:
+    found = whole.plainly(name)
+    if found is None:
         return None
-    with whole.file.open(info) as member:
+    info = whole.infos[found]
+    with whole.opened(info) as member:
         content = content_read(name, info.file_size, member, whole.source.budget)
-    is_unclear = name in whole.twice and content.bound is State.FITS
-    return replace(content, bound=State.NOT_COMPARED, note=_TWICE) if is_unclear else content
+    is_unclear = bool(whole.layout.whole or found in whole.layout.same) and content.bound is State.FITS
+    note = "; ".join(filter(None, (content.note, whole.reason(found))))
+    return replace(content, bound=State.NOT_COMPARED if is_unclear else content.bound, note=note)
 
 
 def _in_jar(whole: _Zip, name: str, block: bytes, signature_name: str) -> Found:
@@ -258,28 +344,33 @@ def _in_jar(whole: _Zip, name: str, block: bytes, signature_name: str) -> Found:
     signature_file = whole.read(whole.infos[signature])
     whole.source.budget.take(len(whole.manifest.octets) if whole.manifest else 0)
     came = jar.compared_with_files(signature_file, whole.manifest, whole.due_in_jar, whole.digest)
+    if gone := jar.schemes_of(signature_file, whole.limits) - whole.layout.apk_schemes:
+        schemes = " and ".join(map(str, sorted(gone)))
+        came = at_best(came, State.NOT_COMPARED, f"the signature file says that there is an APK signature of scheme {schemes}, and there is none")
     return jar.found_of(name, block, signature, signature_file, whole.judged(came))
 
 
-def _manifests_of(whole: _Zip) -> Dict[str, asic.Manifest]:
-    """Returns the manifests of ASiC-E, by the plain names of what signs them. One that cannot be read is none."""
-    found: Dict[str, asic.Manifest] = {}
+def _manifests_of(whole: _Zip) -> Dict[str, List[asic.Manifest]]:
+    """Returns the manifests of ASiC-E, by the plain names of what signs them: several may name one signature. One that cannot be read is none."""
+    found: Dict[str, List[asic.Manifest]] = {}
     for name in filter(asic.MANIFEST.match, whole.infos):
         try:
-            manifest = asic.manifest_of(name, whole.read(whole.infos[name]))
+            manifest = asic.manifest_of(name, whole.read(whole.infos[name]), whole.source.budget)
         except (asic.NotAManifest, zipfile.BadZipFile, OSError, Damaged):
             continue
-        found[manifest.signature] = manifest
+        found.setdefault(manifest.signature, []).append(manifest)
     return found
 
 
-def _in_asic(whole: _Zip, name: str, message: bytes, manifests: Dict[str, asic.Manifest]) -> Found:
-    manifest = manifests.get(plain(name))
-    if manifest is not None:
-        came = compared(manifest.listed, whole.due, whole.digest)
+def _in_asic(whole: _Zip, name: str, message: bytes, manifests: Dict[str, List[asic.Manifest]]) -> Found:
+    if some := manifests.get(plain(name)):
+        manifest = asic.signed_of(message, some, whole.source.budget)
+        came = compared(manifest.listed, whole.due, whole.digest_plainly)
+        if len(some) > 1:
+            came = at_best(came, State.FITS, f"{len(some):,} manifests name this signature")
         return asic.found_in_e(name, message, manifest, whole.judged(came))
-    info = whole.plainly(whole.data[0]) if len(whole.data) == 1 and not manifests else None
-    if info is not None:
+    data = whole.plainly(whole.data[0]) if len(whole.data) == 1 and not manifests else None
+    if data is not None:
         came = not_covered(whole.due - {whole.data[0]})
-        return asic.found_in_s(name, message, whole.data[0], whole.read(info), whole.judged(came))
+        return asic.found_in_s(name, message, whole.data[0], whole.read(whole.infos[data]), whole.judged(came))
     return asic.found_alone(name, message, whole.why_unclear or "no manifest is for it, and there is not one data object")

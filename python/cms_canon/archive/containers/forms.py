@@ -1,0 +1,218 @@
+"""The signatures that the form of a PDF has (ISO 32000-2, sections 12.7 and 12.8), as a parser reads them: qpdf, by the package pikepdf.
+
+A search in octets also finds what no reader shows, and misses what is written otherwise. The parser takes memory of its own, so that the
+memory of the process is limited while it works: an object stream may be packed to be large.
+"""
+
+from __future__ import annotations
+
+import resource
+from contextlib import contextmanager
+from dataclasses import dataclass
+from decimal import Decimal
+from io import BytesIO
+from typing import Any, Iterator, List, NamedTuple, Optional, Set, Tuple
+
+from .sources import Budget
+
+MOST_FIELDS = 3_000  # of one form that are read: the parser takes a third of a millisecond for each
+MOST_ATTACHED = 1_000  # files
+MEMORY = 64 << 20  # octets that the parser may take
+_PAGE = resource.getpagesize()
+_DAMAGED = "the PDF is damaged, so that readers may differ on its signatures"
+_ODD_FIELD = "the field of this signature does not say that it is one, or in which field it is, so that readers differ"
+_SUBFILTERS = tuple(f"/{it}" for it in ("adbe.pkcs7.detached", "adbe.pkcs7.sha1", "adbe.x509.rsa_sha1", "ETSI.CAdES.detached", "ETSI.RFC3161"))
+_HARMLESS = "reported number of objects"  # of a warning: which no reader believes
+_PERMISSIONS = ("/DocMDP", "/UR3", "/UR")
+
+
+@dataclass(frozen=True)
+class FormSignature:
+    """The dictionary of a signature."""
+
+    field: str
+    """The name of the field that has it."""
+    ranges: Tuple[int, ...]
+    """The numbers of its ByteRange; empty if it has none."""
+    contents: Optional[bytes]
+    subfilter: str
+    has_range: bool = True
+    note: str = ""
+    """Why readers may differ on it."""
+
+
+class _TooMany(Exception):
+    """A PDF has more of something than is read."""
+
+
+class Form(NamedTuple):
+    """What the form of a PDF has, and the files that are attached to it."""
+
+    signatures: List[FormSignature]
+    why_unsure: str
+    """Why it may have other signatures for other readers; empty if that is not so."""
+    attached: List[Tuple[str, Any]] = []
+    """The names of files with their streams, as the parser has them."""
+    pdf: Any = None
+    """The parser, which reads them."""
+
+
+class Attachment(NamedTuple):
+    """A file that is attached to a PDF."""
+
+    name: str
+    octets: bytes
+    """As they are in the PDF."""
+    filters: Tuple[str, ...]
+    """How they are packed: by none of these if there are none."""
+
+
+def _data_octets() -> int:
+    with open("/proc/self/statm", encoding="ascii") as file:
+        return int(file.read().split()[5]) * _PAGE
+
+
+@contextmanager
+def _little_memory() -> Iterator[None]:
+    """Lets the process take no more than `MEMORY` octets in addition."""
+    before = resource.getrlimit(resource.RLIMIT_DATA)
+    try:
+        most = _data_octets() + MEMORY
+        own = most if before[0] == resource.RLIM_INFINITY else min(most, before[0])
+        resource.setrlimit(resource.RLIMIT_DATA, (own, before[1]))
+    except (OSError, ValueError):  # no Linux
+        pass
+    try:
+        yield
+    finally:
+        resource.setrlimit(resource.RLIMIT_DATA, before)
+
+
+def form_of(octets: bytes, budget: Budget) -> Form:
+    """Returns the signatures of the form, as far as a parser reads them, and why these may not be all."""
+    try:
+        import pikepdf
+    except ModuleNotFoundError:
+        return Form([], "which signatures its form has is not known: this needs the package pikepdf")
+    signatures: List[FormSignature] = []
+    attached: List[Tuple[str, Any]] = []
+    pdf, why = None, ""
+    with _little_memory():
+        try:
+            pdf = pikepdf.open(BytesIO(octets), attempt_recovery=False)  # or it would look for objects in all octets
+            for it in _signatures_of(pikepdf, pdf):
+                budget.take_member()
+                signatures.append(it)
+            attached = list(_attached_to(pikepdf, pdf.Root, budget))
+            why = _DAMAGED if any(_HARMLESS not in str(it) for it in pdf.get_warnings()) else ""
+        except _TooMany as too_many:
+            why = str(too_many)
+        except pikepdf.PasswordError:
+            why = "which signatures its form has is not known: that needs a password"
+        except (pikepdf.PdfError, AttributeError, KeyError, TypeError, ValueError, RuntimeError, ArithmeticError, MemoryError):
+            why = _DAMAGED
+    return Form(signatures, why, attached, pdf)
+
+
+def _attached_to(pikepdf: Any, root: Any, budget: Budget) -> Iterator[Tuple[str, Any]]:
+    """Gives the files that are named as embedded, or as associated with the document."""
+    names = root.get("/Names")
+    left = [names.get("/EmbeddedFiles")] if isinstance(names, pikepdf.Dictionary) else []
+    specifications = _some(pikepdf, root.get("/AF"), 2)
+    nodes: Set[Tuple[int, int]] = set()
+    while left:
+        node = left.pop()
+        budget.take_member()
+        if not isinstance(node, pikepdf.Dictionary) or node.is_indirect and node.objgen in nodes:
+            continue
+        nodes.add(node.objgen)
+        left += [it for it in _some(pikepdf, node.get("/Kids"), 1) if it.is_indirect]
+        specifications += _some(pikepdf, node.get("/Names"), 2)[1::2]
+        if len(specifications) + len(nodes) + len(left) > MOST_ATTACHED:
+            raise _TooMany(f"it has more than {MOST_ATTACHED:,} files attached, so that not all of them are looked into")
+    yield from _streams_of(pikepdf, specifications)
+
+
+def _some(pikepdf: Any, array: Any, most: int) -> List[Any]:
+    """Returns what is in an array; nothing if it is none. Raises `_TooMany` if it has more members than so many for each file."""
+    if not isinstance(array, pikepdf.Array):
+        return []
+    if len(array) > most * MOST_ATTACHED:
+        raise _TooMany(f"it has more than {MOST_ATTACHED:,} files attached, so that not all of them are looked into")
+    return list(array)
+
+
+def _streams_of(pikepdf: Any, specifications: List[Any]) -> Iterator[Tuple[str, Any]]:
+    """Gives the streams of files, each once, with their names."""
+    given: Set[Tuple[int, int]] = set()
+    for it in specifications:
+        embedded = it.get("/EF") if isinstance(it, pikepdf.Dictionary) else None
+        for key in ("/UF", "/F") if isinstance(embedded, pikepdf.Dictionary) else ():
+            stream = embedded.get(key)
+            if isinstance(stream, pikepdf.Stream) and stream.objgen not in given:
+                given.add(stream.objgen)
+                yield str(it.get("/UF", it.get("/F", "without name")))[:200], stream
+
+
+def attachments_of(form: Form, budget: Budget) -> Iterator[Attachment]:
+    """Gives the files that are attached, one at a time."""
+    for name, stream in form.attached:
+        octets = stream.read_raw_bytes()
+        budget.take(len(octets))
+        filters = stream.get("/Filter", ())
+        some = [filters] if str(filters).startswith("/") else list(filters)
+        yield Attachment(name, octets, tuple(str(it)[1:33] for it in some))
+
+
+def _signatures_of(pikepdf: Any, pdf: Any) -> Iterator[FormSignature]:
+    for name, value, note in _values_of(pikepdf, pdf.Root):
+        if isinstance(value, pikepdf.Dictionary) and ("/Contents" in value or "/ByteRange" in value):
+            yield _signature_of(pikepdf, name, value, note)
+
+
+def _values_of(pikepdf: Any, root: Any) -> Iterator[Tuple[str, Any, str]]:
+    """Gives the values of the fields with their names and why readers may differ on them, and the dictionaries that give permissions."""
+    permissions = root.get("/Perms")
+    if isinstance(permissions, pikepdf.Dictionary):
+        yield from ((f"Perms {name[1:]}", permissions[name], "") for name in _PERMISSIONS if name in permissions)
+    form = root.get("/AcroForm")
+    left = [("", form.get("/Fields"), True)] if isinstance(form, pikepdf.Dictionary) else []
+    seen: Set[Tuple[int, int]] = set()
+    while left:
+        above, fields, is_top = left.pop()
+        for it in fields if isinstance(fields, pikepdf.Array) else ():
+            if not isinstance(it, pikepdf.Dictionary) or it.is_indirect and it.objgen in seen:
+                continue
+            seen.add(it.objgen if it.is_indirect else (-len(seen), 0))
+            if len(seen) > MOST_FIELDS:
+                raise _TooMany(f"its form has more than {MOST_FIELDS:,} fields, so that not all of its signatures are known")
+            name = ".".join(filter(None, (above, str(it.get("/T", "")))))
+            is_known = it.get("/FT") == pikepdf.Name.Sig and (is_top or "/Parent" in it)
+            yield name, it.get("/V"), "" if is_known else _ODD_FIELD
+            left.append((name[:200], it.get("/Kids"), False))
+
+
+def _oddities(value: Any, subfilter: Any, is_whole: bool) -> Iterator[str]:
+    """Gives what readers differ on in the dictionary of a signature."""
+    if not is_whole:
+        yield "readers differ on numbers of the ByteRange that are no integers"
+    if not value.is_indirect:
+        yield "readers differ on a signature that is no object of its own"
+    if str(subfilter) not in _SUBFILTERS:
+        yield "readers differ on a signature without a SubFilter that they know"
+
+
+def _signature_of(pikepdf: Any, name: str, value: Any, note: str) -> FormSignature:
+    ranges = value.get("/ByteRange")
+    numbers = list(ranges) if isinstance(ranges, pikepdf.Array) and len(ranges) <= 100 else []
+    is_number = all(isinstance(it, (int, Decimal)) and not isinstance(it, bool) for it in numbers)
+    is_whole = is_number and all(isinstance(it, int) for it in numbers)
+    contents, subfilter = value.get("/Contents"), value.get("/SubFilter")
+    return FormSignature(
+        field=name,
+        ranges=tuple(int(it) for it in numbers) if is_number else (),
+        contents=bytes(contents) if isinstance(contents, pikepdf.String) else None,
+        subfilter=str(subfilter)[1:65] if isinstance(subfilter, pikepdf.Name) else "without SubFilter",
+        has_range=ranges is not None,
+        note="; ".join(filter(None, (note, *_oddities(value, subfilter, is_whole)))),
+    )

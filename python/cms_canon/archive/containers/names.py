@@ -1,0 +1,42 @@
+"""Where the names of members lead when a container is unpacked, so that two that lead to one place are noticed."""
+
+from __future__ import annotations
+
+import re
+import unicodedata
+from typing import List, Set
+
+READERS_DIFFER = "readers differ on "  # how a note begins that says so of a member or of the whole container
+_ENDS = (".", " ")
+_STEP = re.compile(r"[/\\]")
+
+
+def path_of(name: str, goes_back: bool = True) -> str:
+    """Returns where a name leads. Some readers go back at `..`, and others leave it out."""
+    steps: List[str] = []
+    for step in _STEP.split(name):
+        if step == ".." and goes_back:
+            del steps[-1:]
+        elif step not in ("", ".", ".."):
+            steps.append(step)
+    return "/".join(steps)
+
+
+def paths_of(name: str) -> Set[str]:
+    """Returns where a name leads for one reader or another: some leave out what lies before `..` too."""
+    if ".." not in name:
+        return {path_of(name)}
+    return {path_of(name), path_of(name, goes_back=False), path_of(name.rpartition("..")[2])}
+
+
+def differing(name: str, reason: str) -> str:
+    """Returns the note for a reason why readers differ on a member; empty for none."""
+    return f"{READERS_DIFFER}{name}: {reason}" if reason else ""
+
+
+def folded(path: str) -> str:
+    """Returns what a path has in common with those that lead to the same file where capitals, forms of characters, and dots and blanks at the end of
+    a name do not count."""
+    if path.endswith(_ENDS) or "./" in path or " /" in path:
+        path = "/".join(step.rstrip(". ") for step in path.split("/"))
+    return unicodedata.normalize("NFC", unicodedata.normalize("NFC", path).casefold())

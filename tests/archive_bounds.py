@@ -1,0 +1,140 @@
+#!/usr/bin/env python3
+"""Measures what containers cost that are made to be expensive to `cms_canon.archive`: memory and time of a processor stay within bounds.
+
+    /usr/bin/python3 tests/archive_bounds.py [SECONDS [SEED]]
+
+Each container is read by a process of its own, which may take 64 MB more than without it and twice the largest piece that it reads, and 2 s for each
+10 MB that it reads, unpacked; what is too large is said so with a figure. A generator looks for so many seconds (20 if no number is named) for
+manifests that are worse, by putting together parts of them at random.
+"""
+
+import json
+import resource
+import subprocess
+import sys
+import time
+from pathlib import Path
+from random import Random
+from typing import Dict, List, NamedTuple
+
+from archive import count_if, judged_in_a_copy, tally, write_files, zipped
+from archive_containers import Maker
+
+SEARCHING = 20  # seconds
+SEED = 4711
+MEMORY = 64 << 20
+SLOWEST = 2 / 10e6  # seconds an octet
+LEAST = 2  # seconds that any container may take
+MANIFEST = "META-INF/MANIFEST.MF"
+READING = """
+import json, re, sys, time
+from cms_canon.archive import judging
+from cms_canon.archive.containers import files
+peak = lambda: int(re.search(r"VmHWM:\s*(\d+)", open("/proc/self/status").read())[1]) << 10
+budgets, make = [], files.Budget
+files.Budget = lambda size: budgets.append(make(size)) or budgets[-1]
+for path in sys.argv[1:]:
+    before, begin = peak(), time.process_time()
+    facts = [judging.judged(it) for it in files.found_in_path(path)]
+    octets = budgets[-1]._most - budgets[-1]._octets
+    rows = [(it.what.value, it.note) for it in facts if it.what.value == "too large"]
+    print(json.dumps([peak() - before, time.process_time() - begin, octets, rows[:2]]))
+"""
+
+
+class Evil(NamedTuple):
+    """A container that is made to be expensive, the largest piece that is read of it, and whether it has to be too large."""
+
+    octets: bytes
+    largest: int
+    is_too_large: bool = True
+
+
+def jar(make: Maker, manifest: bytes, *signature_files: bytes, is_too_large: bool = True) -> Evil:
+    files = {MANIFEST: manifest}
+    for number, it in enumerate(signature_files):
+        files.update({f"META-INF/A{number}.SF": it, f"META-INF/A{number}.RSA": make.cms(it)})
+    return Evil(zipped(files), max(map(len, files.values())), is_too_large)
+
+
+def asice(make: Maker, manifest: bytes, is_too_large: bool = True) -> Evil:
+    files = {"META-INF/ASiCManifest.xml": manifest, "META-INF/signature.p7s": make.cms(b"x"), "a": b""}
+    return Evil(zipped(files), len(manifest), is_too_large)
+
+
+def evils(make: Maker) -> Dict[str, Evil]:
+    plain, listed = b"Manifest-Version: 1.0\r\n\r\n", b"Name: a\nSHA-256-Digest: YQ==\n\n"
+    return {
+        "sections.jar": jar(make, plain, b"a\n\n" * (4 << 20)),
+        "sections of the manifest.jar": jar(make, b"a\n\n" * (4 << 20), b"A: b\n\n" + listed),
+        "forty files.jar": jar(make, plain, *[b"a\n\n" * 350_000] * 40),
+        "forty long files.jar": jar(make, plain, *[b"a: b\n" * 350_000] * 40),
+        "names.jar": jar(make, listed * 300_000, plain + listed * 300_000),
+        "folded.jar": jar(make, plain, b"a: b\n" + b" c\n" * 1_000_000),
+        "listed.asice": asice(make, b"<a>" + b'<DataObjectReference URI="a"></DataObjectReference>' * 1_000_000 + b"</a>"),
+        "deep.asice": asice(make, b"<a>" * 1_000_000),
+        "attributes.asice": asice(make, b"<a " + b"".join(b'a%d="" ' % it for it in range(1_000_000)) + b"/>", is_too_large=False),
+        "text.asice": asice(make, b"<DigestValue>" + b"\n&#65;" * 2_000_000 + b"</DigestValue>", is_too_large=False),
+    }
+
+
+def costs(home: Path, paths: List[Path]) -> List[list]:
+    """Returns what each container costs: octets of memory, seconds, octets read, and what is said to be too large."""
+    lines = []
+    for path in paths:
+        ran = subprocess.run([sys.executable, "-c", READING, path], cwd=home, capture_output=True, text=True, timeout=600)
+        if ran.returncode:
+            raise SystemExit(ran.stderr[-800:])
+        lines.append(json.loads(ran.stdout))
+    return lines
+
+
+def judge_evil(home: Path, folder: Path, make: Maker) -> None:
+    some = evils(make)
+    write_files(folder, {name: it.octets for name, it in some.items()})
+    for (name, it), (memory, seconds, octets, rows) in zip(some.items(), costs(home, [folder / name for name in some])):
+        is_bound = memory <= MEMORY + 2 * it.largest and seconds <= max(LEAST, SLOWEST * octets)
+        is_said = not it.is_too_large or any("more than" in note for _, note in rows)
+        came = f"{memory >> 20} MB, {seconds:.1f} s, {octets:,} octets, {rows}"
+        count_if(f"the bounds for {name}", is_bound and is_said, came)
+        if "-v" in sys.argv:
+            print(name, came)
+
+
+def at_random(make: Maker, random: Random) -> Evil:
+    """Returns a JAR or an ASiC container whose manifest is put together of parts that come many times."""
+    lines = [b"a\n", b"\n", b"\r", b"\r\n", b" b\n", b"a: b\n", b"Name: a\n", b"SHA-256-Digest: YQ==\n", b"SHA-256-Digest-Manifest: YQ==\n", b": \n", b"x" * 90]
+    elements = [b"<a>", b"</a>", b"<a/>", b'<a b="">', b"x\n", b"&amp;", b'<DataObjectReference URI="a">', b"</DataObjectReference>", b"<!-- -->", b"<?a?>"]
+
+    def text(parts: List[bytes]) -> bytes:
+        return b"".join(b"".join(random.choices(parts, k=random.randrange(1, 6))) * random.choice((1, 1000, 300_000)) for _ in range(random.randrange(1, 4)))
+
+    if random.random() < 0.4:
+        return asice(make, b"<a>" + text(elements), is_too_large=False)
+    some = text(lines)
+    return jar(make, random.choice((text(lines), b"A: b\n\n" + some)), *[some] * random.choice((1, 1, 3)), is_too_large=False)
+
+
+def judge_search(home: Path, folder: Path, make: Maker, random: Random, seconds: int) -> None:
+    """No container that is made at random costs more than it may."""
+    end, number, wrong = time.monotonic() + seconds, 0, []
+    while time.monotonic() < end:
+        it, number = at_random(make, random), number + 1
+        path = write_files(folder, {"evil.asice" if b"ASiCManifest" in it.octets else "evil.jar": it.octets}) / "evil.jar"
+        path = path if b"ASiCManifest" not in it.octets else folder / "evil.asice"
+        ((memory, took, octets, rows),) = costs(home, [path])
+        if memory > MEMORY + 2 * it.largest or took > max(LEAST, SLOWEST * octets):
+            wrong.append(f"{number}: {memory >> 20} MB, {took:.1f} s, {octets:,} octets, {rows}")
+    count_if(f"the bounds for {number} containers at random", number and not wrong, wrong[:3])
+
+
+def judge_copy(home: Path) -> None:
+    given = [int(it) for it in sys.argv[1:3] if it.isdigit()]
+    seconds, seed = [*given, *[SEARCHING, SEED][len(given) :]]
+    make = Maker(home / "made")
+    judge_evil(home, home / "evil", make)
+    judge_search(home, home / "search", make, Random(seed), seconds)
+
+
+if __name__ == "__main__":
+    sys.exit(judged_in_a_copy(("cryptography",), judge_copy) if tally.has("openssl") else tally.end(may_skip_all=True))

@@ -1,0 +1,419 @@
+#!/usr/bin/env python3
+"""Makes odd PDFs and mails at random, and has other readers open them: what `cms_canon.archive` says to fit without a note, each reader takes as it is.
+
+    /usr/bin/python3 tests/archive_documents_read.py [PDFS [MAILS [SEED]]]
+
+There are 250 PDFs and 2,000 mails if no numbers are named, and each oddity by itself, with what is to be said of it. The readers are pdfsig,
+mutool, pikepdf (qpdf) and Python's email. What is missing is skipped by its name.
+"""
+
+import base64
+import email
+import hashlib
+import re
+import subprocess
+import sys
+from email.policy import compat32, default
+from pathlib import Path
+from random import Random
+from typing import Callable, Dict, List, NamedTuple, Set, Tuple
+
+from archive import SECONDS, TOP, count, count_if, count_same, judged_in_a_copy, modules_of, tally
+from archive_containers import DIFFERS, FITS, PARTLY, Case, Maker, said_of, write
+
+SEED = 3108
+PDFS, MAILS = 250, 2000
+HOLE = 8192  # hexadecimal digits of /Contents
+ROOM = 96  # octets for a ByteRange
+
+
+# ---- PDFs
+
+class Odd(NamedTuple):
+    """How a PDF is made: what its signature says, which fields it has, and what lies around it."""
+
+    ranges: str = "/ByteRange [0 {0} {1} {2}]"
+    contents: bytes = b"/Contents %HOLE%"
+    kind: bytes = b"/SubFilter /adbe.pkcs7.detached"
+    more: bytes = b""
+    """What else is in the dictionary of the signature."""
+    fields: bytes = b"100 0 R"
+    value: bytes = b"10 0 R"
+    field: bytes = b" /FT /Sig"
+    others: Tuple[Tuple[int, bytes], ...] = ()
+    before: bytes = b""
+    counts_before: bool = False
+    """Whether a ByteRange counts from the beginning of the file, and not of the PDF."""
+    after: bytes = b""
+    digits: int = HOLE
+
+
+PLAIN = Odd()
+_ANOTHER = b"<" + b"00" * 40 + b">"
+ODDITIES: Dict[str, Odd] = {
+    "plain": PLAIN,
+    "another string": Odd(contents=b"/Contents " + _ANOTHER + b" /Other %HOLE%"),
+    "no Contents": Odd(contents=b"/Other %HOLE%"),
+    "Contents of another object": Odd(contents=b"/Contents 12 0 R", others=((12, b"%HOLE%"),)),
+    "Contents twice": Odd(contents=b"/Contents %HOLE% /Contents " + _ANOTHER),
+    "a name in hexadecimal": Odd("/Byte#52ange [0 {0} {1} {2}]"),
+    "Contents in hexadecimal": Odd(contents=b"/Content#73 %HOLE%"),
+    "a comment in the array": Odd("/ByteRange [0 %1 2\n {0} {1} {2}]"),
+    "reals": Odd("/ByteRange [0 {0}.0 {1}.0 {2}.0]"),
+    "signs": Odd("/ByteRange [+0 +{0} +{1} +{2}]"),
+    "an array of its own": Odd("/ByteRange 13 0 R", others=((13, b"[0 %RANGES%]"),)),
+    "no ByteRange": Odd("% /ByteRange [0 {0} {1} {2}]\n"),
+    "a ByteRange in a string": Odd("/Name (/ByteRange [0 {0} {1} {2}])"),
+    "six numbers": Odd("/ByteRange [0 0 0 {0} {1} {2}]"),
+    "no field": Odd(fields=b""),
+    "a field without value": Odd(value=b"null"),
+    "a field inside another": Odd(fields=b"101 0 R", others=((101, b"<< /T (above) /Kids [100 0 R] >>"),), field=b" /FT /Sig /Parent 101 0 R"),
+    "a field without its parent": Odd(fields=b"101 0 R", others=((101, b"<< /T (above) /Kids [100 0 R] >>"),)),
+    "a field of another kind": Odd(field=b" /FT /Tx"),
+    "a field in a page alone": Odd(fields=b"", more=b" /Note (in no form)"),
+    "odd digits": Odd(digits=HOLE - 1),
+    "a value that is direct": Odd(
+        value=b"<< /Type /Sig /Filter /Adobe.PPKLite /SubFilter /adbe.pkcs7.detached %RANGE% /Contents %HOLE% >>", others=((10, b"null"),)),
+    "a comment before Contents": Odd(contents=b"/Contents %a comment\n%HOLE%"),
+    "two fields of one signature": Odd(fields=b"100 0 R 102 0 R", others=((102, b"<< /T (T) /FT /Sig /V 10 0 R >>"),)),
+    "two fields, one of another": Odd(fields=b"102 0 R 100 0 R", others=(
+        (102, b"<< /T (T) /FT /Sig /V 103 0 R >>"), (103, b"<< /Type /Sig /SubFilter /adbe.pkcs7.detached /ByteRange [0 %RANGES%] /Contents <00> >>"))),
+    "no SubFilter": Odd(kind=b""),
+    "another SubFilter": Odd(kind=b"/SubFilter /ETSI.CAdES.detached"),
+    "SubFilter of SHA-1": Odd(kind=b"/SubFilter /adbe.pkcs7.sha1"),
+    "SubFilter twice": Odd(kind=b"/SubFilter /adbe.pkcs7.sha1 /SubFilter /adbe.pkcs7.detached"),
+    "a catalog that is another": Odd(more=b" >>\nendobj\n1 0 obj\n<< /Type /Catalog /Pages 2 0 R"),
+    "octets before": Odd(before=b"\n\n"),
+    "a line before": Odd(before=b"%!PS something\n"),
+    "counted octets before": Odd(before=b"\n\n", counts_before=True),
+    "octets after": Odd(after=b"\n5 0 obj\n<< >>\nendobj\n"),
+    "blanks after": Odd(after=b"\r\n\0"),
+}
+
+
+def objects_of(odd: Odd) -> Dict[int, bytes]:
+    return {
+        1: b"<< /Type /Catalog /Pages 2 0 R /AcroForm << /Fields [%s] /SigFlags 3 >> >>" % odd.fields,
+        2: b"<< /Type /Pages /Kids [3 0 R] /Count 1 >>", 3: b"<< /Type /Page /Parent 2 0 R /MediaBox [0 0 200 200] >>",
+        10: b"<< /Type /Sig /Filter /Adobe.PPKLite %s %%RANGE%% %s%s >>" % (odd.kind, odd.contents, odd.more),
+        100: b"<< /T (S) /V %s%s /Type /Annot /Subtype /Widget /Rect [0 0 0 0] >>" % (odd.value, odd.field),
+        **dict(odd.others),
+    }
+
+
+def laid_out(odd: Odd) -> bytes:
+    """Returns a PDF with room for a ByteRange and a signature."""
+    octets, places = bytearray(b"%PDF-1.7\n"), {}
+    for number, body in sorted(objects_of(odd).items()):
+        places[number] = len(octets)
+        body = body.replace(b"%RANGES%", b"%RANGES%".ljust(ROOM)).replace(b"%RANGE%", b"%RANGE%".ljust(ROOM))
+        octets += b"%d 0 obj\n%s\nendobj\n" % (number, body.replace(b"%HOLE%", b"<" + b"0" * odd.digits + b">"))
+    table = len(octets)
+    octets += b"xref\n0 1\n0000000000 65535 f \n" + b"".join(b"%d 1\n%010d 00000 n \n" % it for it in sorted(places.items()))
+    octets += b"trailer\n<< /Size 200 /Root 1 0 R >>\nstartxref\n%d\n%%%%EOF\n" % table
+    return bytes(octets)
+
+
+def signed(odd: Odd, sign: Callable[[bytes], bytes]) -> bytes:
+    """Returns a PDF that is signed."""
+    octets = bytearray(laid_out(odd))
+    begin = octets.index(b"<" + b"0" * odd.digits + b">")
+    end, first = begin + odd.digits + 2, len(odd.before) if odd.counts_before else 0
+    numbers = begin + first, end + first, len(octets) - end
+    for mark, text in ((b"%RANGES%", "{0} {1} {2}"), (b"%RANGE%", odd.ranges)):
+        if (at := octets.find(mark)) >= 0:
+            octets[at : at + ROOM] = text.format(*numbers).encode().ljust(ROOM)
+    covered = odd.before[:first] + bytes(octets[:begin]) + bytes(octets[end:])
+    value = sign(covered).hex().encode()
+    octets[begin + 1 : begin + 1 + len(value)] = value
+    return odd.before + bytes(octets) + odd.after
+
+
+def mixed(random: Random) -> Odd:
+    """Returns some oddities at once."""
+    odd = PLAIN
+    for other in random.sample(list(ODDITIES.values()), random.choice((1, 1, 2, 3))):
+        changed = {name: getattr(other, name) for name in Odd._fields if getattr(other, name) != getattr(PLAIN, name)}
+        odd = odd._replace(**{**changed, "others": (*odd.others, *changed.get("others", ()))})
+    return odd
+
+
+class Range(NamedTuple):
+    """What a signature covers, as `0, 400, 500, 20`: where the two pieces begin, and how long they are."""
+
+    first: int
+    length: int
+    second: int
+    rest: int
+
+
+SIGNED_RANGES = re.compile(r"Signed Ranges: \[(\d+) - (\d+)\], \[(\d+) - (\d+)\]")
+
+
+def seen_by_pdfsig(path: Path) -> Set[Range]:
+    """Returns what is covered by the signatures that pdfsig finds to be valid for the whole document."""
+    ran = subprocess.run(["pdfsig", "-nocert", str(path)], capture_output=True, text=True, errors="replace", timeout=SECONDS)
+    found = set()
+    for one in ran.stdout.split("Signature #")[1:]:
+        ranges = SIGNED_RANGES.search(one)
+        if ranges and "Signature is Valid" in one and "- Total document signed" in one:
+            first, end, second, last = map(int, ranges.groups())
+            found.add(Range(first, end - first, second, last - second))
+    return found
+
+
+def is_valid_for_mutool(path: Path) -> bool:
+    ran = subprocess.run(["mutool", "sign", "-v", str(path)], capture_output=True, text=True, errors="replace", timeout=SECONDS)
+    return "The document is unchanged since signing." in ran.stdout
+
+
+def fitting(facts) -> List[str]:
+    """Returns the places that are said to fit without a note."""
+    return [where for where, it in facts.items() if it.state == FITS and not it.note]
+
+
+PDFS_SAID: Dict[str, Tuple[str, str]] = {  # the state or the class, and the note, of the first place
+    "plain": (FITS, ""), "blanks after": (FITS, "3 blanks follow"), "odd digits": (FITS, ""), "a field inside another": (FITS, ""),
+    "a name in hexadecimal": (FITS, ""), "Contents in hexadecimal": (FITS, ""), "a comment in the array": (FITS, ""),
+    "an array of its own": (FITS, ""), "Contents of another object": (FITS, ""), "signs": (FITS, ""),
+    "reals": (FITS, "are no integers"), "another string": (FITS, "another /Contents"), "no Contents": (FITS, "another /Contents"),
+    "no field": (FITS, "no field of the form"), "a field without value": (FITS, "no field of the form"),
+    "no ByteRange": (FITS, "no field of the form"), "a ByteRange in a string": (FITS, "no field of the form"),
+    "octets before": (PARTLY, "readers differ on the 2 octets before the PDF"), "counted octets before": (FITS, "2 octets before the PDF"),
+    "a field without its parent": (FITS, "does not say that it is one"), "a field of another kind": (FITS, "does not say that it is one"),
+    "a value that is direct": (FITS, "no object of its own"), "no SubFilter": (FITS, "without a SubFilter that they know"),
+    "a comment before Contents": (FITS, ""), "two fields of one signature": (FITS, ""), "another SubFilter": (FITS, ""),
+    "octets after": ("fits an earlier revision", "octets follow"), "six numbers": ("damaged", "has 6 numbers"),
+}
+
+
+def judge_odd_pdfs(archive, folder: Path, make) -> None:
+    """Each oddity by itself is said as it is."""
+    for name, (state, note) in PDFS_SAID.items():
+        came, facts = said_of(archive, write(folder, f"{name}.pdf", Case(signed(ODDITIES[name], make.cms), "")))
+        where = next(iter(came))
+        is_so = came[where] == state and (note in facts[where].note if note else not facts[where].note)
+        count_if(f"PDF with {name}", is_so, came, facts[where].note)
+
+
+def judge_pdfs(archive, folder: Path, make, random: Random, number: int) -> None:
+    """What is said to fit without a note is valid, and the whole document, for pdfsig and mutool."""
+    wrong, fit = [], 0
+    odd_ones = [*ODDITIES.values(), *(mixed(random) for _ in range(number))]
+    readers = [it for it in ("pdfsig", "mutool") if tally.has(it)]
+    for count_of, odd in enumerate(odd_ones):
+        path = write(folder, f"{count_of}.pdf", Case(signed(odd, make.cms), ""))
+        _, facts = said_of(archive, path)
+        places = fitting(facts)
+        fit += len(places)
+        if not places:
+            continue
+        covered = {Range(*map(int, facts[it].content.rpartition("ByteRange ")[2].split())) for it in places}
+        if "pdfsig" in readers and not covered <= seen_by_pdfsig(path):
+            wrong.append(("pdfsig", odd))
+        if "mutool" in readers and not is_valid_for_mutool(path):
+            wrong.append(("mutool", odd))
+    count(f"{len(odd_ones)} PDFs, of which {fit} signatures are said to fit without a note", wrong[:3] or ("" if fit > 10 else "too few fit"))
+
+
+# ---- mails
+
+SIGNED_PART = b"Content-Type: text/plain\r\n\r\nWhat was signed.\r\n"
+OTHER_PART = b"Content-Type: text/plain\r\n\r\nWhat was not signed.\r\n"
+
+
+class Letter(NamedTuple):
+    """How a mail is made, as a template of its header Content-Type, what lies before it, and how its parts are separated."""
+
+    kind: bytes = b'multipart/signed; protocol="application/pkcs7-signature"; micalg=sha-256; boundary="b"'
+    head: bytes = b""
+    name: bytes = b"Content-Type:"
+    after: bytes = b""
+    delimiter: bytes = b"--b"
+    decoy: bytes = b""
+    """What lies before the first delimiter."""
+    between: bytes = b"\r\n"
+    coding: bytes = b"base64"
+    value: Callable[[bytes], bytes] = lambda der: base64.encodebytes(der).replace(b"\n", b"\r\n")
+
+
+_DECOY = b"--c\r\n" + OTHER_PART + b"\r\n--c\r\nContent-Type: text/plain\r\n\r\n2\r\n--c--\r\n"
+_KIND = Letter().kind
+LETTERS: Dict[str, Letter] = {
+    "plain": Letter(),
+    "boundary twice": Letter(_KIND + b"; boundary=c", decoy=_DECOY),
+    "boundary twice, first": Letter(b"multipart/signed; boundary=c; boundary=b", decoy=_DECOY),
+    "boundary in capitals": Letter(_KIND + b"; BOUNDARY=c", decoy=_DECOY),
+    "boundary in segments": Letter(_KIND + b"; boundary*0=c", decoy=_DECOY),
+    "boundary encoded": Letter(b"multipart/signed; boundary*=us-ascii''b"),
+    "protocol twice": Letter(_KIND + b"; protocol=a/b"),
+    "a comment": Letter(_KIND + b" (a comment)"),
+    "a comment with a boundary": Letter(b"multipart/signed (; boundary=c); boundary=b", decoy=_DECOY),
+    "a comment before": Letter(b"(one) multipart/signed; boundary=b"),
+    "a quoted pair": Letter(b'multipart/signed; boundary="\\b"'),
+    "a boundary of two words": Letter(b"multipart/signed; boundary=b c"),
+    "a header twice": Letter(head=b"Content-Type: multipart/mixed; boundary=c\r\n", decoy=_DECOY),
+    "a header twice in capitals": Letter(_KIND.replace(b'"b"', b'"B"'), head=b"Content-Type: " + _KIND + b"\r\n"),
+    "a line that is no header": Letter(head=b"no header\r\n"),
+    "a blank before the colon": Letter(name=b"Content-Type :"),
+    "a lone CR": Letter(head=b"X-A: b\rContent-Type: multipart/mixed; boundary=c\r\n", decoy=_DECOY),
+    "an encoded multipart": Letter(after=b"Content-Transfer-Encoding: base64\r\n"),
+    "a lone CR before a boundary": Letter(decoy=b"x\r--b\r\n" + OTHER_PART + b"\r\n"),
+    "a lone CR after a boundary": Letter(decoy=b"--b\rX: y\r\n\r\n" + OTHER_PART + b"\r\n"),
+    "headers above 4 KiB": Letter(head=b"".join(b"X-%d: %s\r\n" % (it, b"y" * 60) for it in range(90))),
+    "blanks after a boundary": Letter(delimiter=b"--b \t"),
+    "characters that are not of base64": Letter(value=lambda der: b"**" + base64.encodebytes(der).replace(b"\n", b"\r\n*")),
+    "an empty parameter": Letter(_KIND.replace(b"; ", b";; ")),
+    "another encoding": Letter(coding=b"base64 (really)"),
+    "a preamble": Letter(decoy=b"A preamble.\r\n"),
+    "a folded header": Letter(_KIND.replace(b"; ", b";\r\n\t")),
+}
+MAILS_SAID = {  # the state, and the note, of part 2; or why the mail is damaged
+    "plain": (FITS, ""), "blanks after a boundary": (FITS, ""), "a preamble": (FITS, ""), "a folded header": (FITS, ""),
+    "headers above 4 KiB": (FITS, ""),
+    "a header twice": ("damaged", "two headers"), "a header twice in capitals": ("damaged", "two headers"),
+    "boundary twice": (FITS, "parameters or comments"), "boundary in capitals": (FITS, "parameters or comments"),
+    "boundary in segments": (FITS, "parameters or comments"), "boundary encoded": (FITS, "parameters or comments"),
+    "protocol twice": (FITS, "parameters or comments"), "a comment": (FITS, "parameters or comments"),
+    "a comment with a boundary": (FITS, "parameters or comments"), "a comment before": (FITS, "parameters or comments"),
+    "a quoted pair": (FITS, "parameters or comments"), "a line that is no header": (FITS, "a line among the headers"),
+    "a blank before the colon": (FITS, "a line among the headers"), "a lone CR": (FITS, "a lone CR among the headers"),
+    "an encoded multipart": (FITS, "said to be encoded"), "a lone CR before a boundary": (FITS, "lone CR beside a boundary"),
+    "characters that are not of base64": (FITS, "not of base64"), "an empty parameter": (FITS, "parameters or comments"),
+}
+
+
+def letter_of(letter: Letter, sign: Callable[[bytes], bytes]) -> bytes:
+    """Returns a signed mail."""
+    signature = b"Content-Type: application/pkcs7-signature; name=smime.p7s\r\nContent-Transfer-Encoding: " + letter.coding + b"\r\n\r\n"
+    return (
+        b"From: a@example.org\r\n" * (not letter.head.startswith(b"X-0")) + letter.head + b"MIME-Version: 1.0\r\n" + letter.name + b" " + letter.kind
+        + b"\r\n" + letter.after + b"\r\n" + letter.decoy + letter.delimiter + b"\r\n" + SIGNED_PART + letter.between + letter.delimiter + b"\r\n"
+        + signature + letter.value(sign(SIGNED_PART)) + b"\r\n--b--\r\n"
+    )
+
+
+def mixed_letter(random: Random) -> Letter:
+    letter, plain = Letter(), Letter()
+    for other in random.sample(list(LETTERS.values()), random.choice((0, 1, 1, 2))):
+        letter = letter._replace(**{name: getattr(other, name) for name in Letter._fields if getattr(other, name) != getattr(plain, name)})
+    return letter
+
+
+def spoilt_letter(random: Random, octets: bytes) -> bytes:
+    """Returns a mail of which some octets outside of the signed part are others: such as readers look at."""
+    changed = bytearray(octets)
+    for _ in range(random.choice((0, 1, 1, 2))):
+        at, end = random.randrange(len(changed)), changed.find(SIGNED_PART)
+        if at < end or at > end + len(SIGNED_PART):
+            piece = random.choice((b"\r", b"\n", b"\r\n", b" ", b";", b'"', b"(", b")", b"--b", b"\0", b":", b"=", b"\\", b"b", b"\t", b""))
+            changed[at : at + random.randrange(2)] = piece
+    return bytes(changed)
+
+
+def first_part(mail) -> bytes:
+    """Returns what Python's email shows of the first part of the outermost multipart/signed; nothing if there is none."""
+    for part in mail.walk():
+        if part.get_content_type() == "multipart/signed" and part.is_multipart():
+            return shown_of(part.get_payload(0))
+    return b""
+
+
+def shown_of(part) -> bytes:
+    leaves = (it.get_payload(decode=True) for it in part.walk() if not it.is_multipart())
+    return b"".join((it or b"").replace(b"\r\n", b"\n") + b"\0" for it in leaves)
+
+
+def seen_by_email(octets: bytes, policy) -> bytes:
+    try:
+        return first_part(email.message_from_bytes(octets, policy=policy))
+    except Exception:  # of any kind: a mail that it cannot take apart shows nothing
+        return b""
+
+
+JAVA_MAIL = [Path("/usr/share/java") / it for it in ("javax.mail.jar", "javax.activation.jar")]
+
+
+def has_java_mail() -> bool:
+    if not all(it.exists() for it in JAVA_MAIL):
+        tally.skip("JavaMail", "libmail-java is not installed")
+        return False
+    return True
+
+
+def seen_by_java(folder: Path) -> Dict[str, str]:
+    ran = subprocess.run(
+        ["java", "-cp", ":".join(map(str, JAVA_MAIL)), str(TOP / "tests" / "java" / "FirstParts.java"), str(folder)],
+        capture_output=True, text=True, timeout=SECONDS,
+    )
+    return dict(line.split(" ") for line in ran.stdout.splitlines())
+
+
+def seen_by_openssl(path: Path) -> bytes:
+    """Returns what openssl takes for the content of a mail, if it verifies it."""
+    words = ["openssl", "cms", "-verify", "-inform", "SMIME", "-noverify", "-in", str(path)]
+    ran = subprocess.run(words, capture_output=True, timeout=SECONDS)
+    return ran.stdout if ran.returncode == 0 else b""
+
+
+def judge_odd_mails(archive, folder: Path, make) -> None:
+    """Each oddity by itself is said as it is."""
+    for name, (state, note) in MAILS_SAID.items():
+        came, facts = said_of(archive, write(folder, f"{name}.eml", Case(letter_of(LETTERS[name], make.cms), "")))
+        where = "part 2" if "part 2" in came else next(iter(came))
+        is_so = came[where] == state and (note in facts[where].note if note else not facts[where].note)
+        count_if(f"mail with {name}", is_so, came, facts[where].note)
+    digest = b"From: a@example.org\r\nContent-Type: multipart/digest; boundary=d\r\n\r\n--d\r\n\r\n%s\r\n--d--\r\n" % letter_of(Letter(), make.cms)
+    came, _ = said_of(archive, write(folder, "digest.eml", Case(digest, "")))
+    count_same("a mail in a digest", came, {"part 1/mail.2": FITS, "": "container"})
+
+
+def judge_line_ends(archive, folder: Path, make) -> None:
+    """A part that was signed with LF as it is, as AS2 does it, fits with a note; with another octet it does not."""
+    part = SIGNED_PART.replace(b"\r\n", b"\n") + b"\0\n"
+    mail = letter_of(Letter(coding=b"binary", value=lambda der: der), lambda _: make.cms(part)).replace(SIGNED_PART, part)
+    for name, octets, wanted, note in (("as it is", mail, FITS, "with LF"), ("changed", mail.replace(b"What", b"Whet"), DIFFERS, "")):
+        came, facts = said_of(archive, write(folder, f"LF {name}.eml", Case(octets, "")))
+        count_if(f"a part with LF, {name}", came.get("part 2") == wanted and note in facts["part 2"].note, came, facts["part 2"].note)
+
+
+def judge_mails(archive, folder: Path, make, random: Random, number: int) -> None:
+    """What is said to fit without a note is what Python's email, JavaMail and openssl show of the part."""
+    der = make.cms(SIGNED_PART)
+    letters = [letter_of(it, lambda _: der) for it in LETTERS.values()]
+    letters += [spoilt_letter(random, letter_of(mixed_letter(random), lambda _: der)) for _ in range(number)]
+    wrong, fitting_ones, shown = [], [], shown_of(email.message_from_bytes(SIGNED_PART, policy=compat32))
+    for count_of, octets in enumerate(letters):
+        path = write(folder, f"{count_of:05d}.eml", Case(octets, ""))
+        if fitting(said_of(archive, path)[1]):
+            fitting_ones.append(path)
+    has_java = tally.has("java") and has_java_mail()
+    by_java = seen_by_java(folder) if has_java else {}
+    for path in fitting_ones:
+        octets = path.read_bytes()
+        views = [seen_by_email(octets, compat32), seen_by_email(octets, default)]
+        other = by_java.get(path.name)
+        if any(it != shown for it in views) or has_java and other != hashlib.sha256(shown).hexdigest():
+            wrong.append((path.name, views, other, octets[:600]))
+        elif seen_by_openssl(path) not in (b"", SIGNED_PART):
+            wrong.append((path.name, "openssl"))
+    name = f"{len(letters):,} mails, of which {len(fitting_ones):,} are said to fit without a note"
+    count(name, wrong[:3] or ("" if len(fitting_ones) > len(letters) // 20 else "too few fit"))
+
+
+def judge_copy(home: Path) -> None:
+    inner = (f"containers.{it}" for it in ("files", "found", "mail", "sources"))
+    archive = modules_of(home, "judging", *inner)
+    given = [int(it) for it in sys.argv[1:4]]
+    pdfs, mails, seed = [*given, *[PDFS, MAILS, SEED][len(given) :]]
+    random, make = Random(seed), Maker(home / "made")
+    if tally.has_package("pikepdf"):
+        judge_odd_pdfs(archive, home / "odd", make)
+        judge_pdfs(archive, home / "pdfs", make, random, pdfs)
+    judge_odd_mails(archive, home / "odd", make)
+    judge_line_ends(archive, home / "odd", make)
+    judge_mails(archive, home / "mails", make, random, mails)
+
+
+if __name__ == "__main__":
+    sys.exit(judged_in_a_copy(("cryptography",), judge_copy) if tally.has("openssl") else tally.end(may_skip_all=True))
