@@ -111,8 +111,8 @@ SECTIONS = (
     ),
     Section(
         "What is refused",
-        "Octets are hopeless if no message begins with them. They say why they are refused: for what X.690, 8.1 to 8.19, does not allow, or "
-        "for a limit of the library.",
+        "Octets are hopeless if the whole does not begin with a message within the limit, whatever follows them. With E2 to E5, E8 to E11 and "
+        "E17 they also say why: for what X.690, 8.1 to 8.19, does not allow, for a limit of the library, or for their content type.",
         {f"{it}.antt": "" for it in ("cms_tlv/Clauses", "cms_scalars/Malformed", "cms_canon/Reasons", "cms_canon/Messages")},
     ),
 )
@@ -330,10 +330,10 @@ a definition of this page, something that the kit or the code declares, or a var
 
 ## In words
 
-A message is a ContentInfo that holds SignedData (RFC 5652), or a TimeStampReq or a TimeStampResp (RFC 3161), as sections 3 to 7 have them: what
-is opaque is framed as there, signed attributes are in DER, strings have at most eight levels of segments, and countersignatures four. Two are
-the same if they differ at most in the order of the members of sets (`same_message`). An input denotes a message if it spells one that is the
-same, and neither it nor the DER of that has more than 2^24 octets.
+A message is a ContentInfo that holds SignedData (RFC 5652), or a TimeStampReq or a TimeStampResp (RFC 3161), as sections 1 to 7 have them: at
+most eight octets encode a length, and at most four follow the first octet of an identifier; what is opaque is framed as in section 3; a BIT STRING is
+primitive; signed attributes are in DER; strings have at most eight levels of segments, and countersignatures four. Two are the same if they
+differ at most in the order of the members of sets (`same_message`). An input denotes a message if it spells one that is the same, and neither the input nor the DER of its message has more than 2^24 octets.
 
 Take any two inputs in memory. If `both` returns two lists of octets, then of each input and what is written for it:
 
@@ -341,7 +341,7 @@ Take any two inputs in memory. If `both` returns two lists of octets, then of ea
   has at most 2^24 octets, and so has the DER of its message.
 - **`same`**: the two lists are equal if and only if there is a message that both inputs denote.
 - **`kept`**: the content is the same; each signature and countersignature covers the same octets, whatever detached content is given; and
-  signed attributes, certificates, attribute values but countersignatures, and everything else that is opaque lie in what is written as they
+  signed attributes, certificates, attribute values other than countersignatures, and everything else that is opaque lie in what is written as they
   lie in the input, octet for octet, and each as often.
 - **`again`**: what is written is accepted, and is written again unchanged; and if octets follow it, it is the only beginning of the whole that
   spells a message.
@@ -350,13 +350,13 @@ What `written_or_refused` writes is DER as above (`der`). If it refuses an input
 refusal counts:
 
 - they are hopeless: no list of octets that begins with them begins with a message of at most 2^24 octets;
-- it is E1: they are the whole input, fewer than 2^24, and a proper prefix of a frame, which need not be the beginning of a message;
-- it is E2: they are a message of at most 2^24 octets, whose DER has more;
+- it is E1: they are the whole input, fewer than 2^24, and a proper prefix of a frame, though maybe of none that a message begins with;
+- it is E2: they are a message of at most 2^24 octets, and all DER of it has more (that there is some is not said here);
 - it is E18: they are a message, which has at most 2^24 octets as its DER has, and one octet that follows it.
 
 If they are hopeless, they also say why (`SayWhy`), and it is not E18:
 
-- with E2 they are 2^24 many, or end in a header whose length passes 2^24;
+- with E2 they are 2^24 many, or end in a header whose contents would end past the octet 2^24;
 - with E3, E4 and E5 they end in identifier octets and one length octet: FF; one of 89 to FE; or 80, if the identifier is primitive;
 - with E8, E9, E10 and E11 they end in an element 02, 06, 01 or 03, whose contents are not those of an INTEGER, OBJECT IDENTIFIER, BOOLEAN or
   BIT STRING, respectively;
@@ -364,13 +364,13 @@ If they are hopeless, they also say why (`SayWhy`), and it is not E18:
   id-signedData;
 - with E6, E7, E12 to E16 and E19 nothing more is said of them.
 
-Before that header or element there is a path to it: whole frames, and headers of constructed elements (`IsPath`). So
-`30 04 04 02 02 00` does not end in a malformed INTEGER, since `04` is not constructed. `SayWhy` leaves open whether the path is one that a
-message has: `30 04 31 02 02 00` does end in a malformed INTEGER, though a message has none there, and the reader refuses the `31`
-(E7). Nor does this page say that the refusal is the first one that reading from left to right comes to. Both are fixed by another clause of
-`read_message`, `refines`, which names the pure readers.
+Before that header or element there is a path to it: whole frames, and headers of constructed elements (`IsPath`), whose lengths are not compared
+with what follows. So `30 04 04 02 02 00` does not end in a malformed INTEGER, since `04` is not constructed. `SayWhy` leaves open whether the path
+is one that a message has: `30 04 31 02 02 00` does end in a malformed INTEGER, though a message has none there, and the reader refuses the `31`
+(E7). Nor does this page say that the refusal is the first one that reading from left to right comes to. Both are said by the clause `refines` of
+`read_message`, a function of the library that is not on this page; the clause names the pure readers.
 
-`written_or_refused` returns no other fault but `OutOfMemory`. No clause says when: a `both` that always returns none, and a `written_or_refused`
+Besides refusals, `written_or_refused` returns only `OutOfMemory`. No clause says when: a `both` that always returns none, and a `written_or_refused`
 that always says that memory ran out, would meet these contracts.
 
 That the imprint which a request or a token is about is kept too is a law of its own (`same_messages_have_the_same_covers`, clause `imprint`).
@@ -383,13 +383,15 @@ them. They rest on the types of the code, which come first, and on definitions o
 
 A **grammar** says in its rows how a value is spelled, which values are the same, and more that serves reading. The contracts read only its
 rows {read}, and no definition here projects another one. So the other rows are left out, and `..` is in their place.
-What is handed to those rows alone is not read either:
+What a grammar hands to those rows alone is not read there either:
 {handed}.
 A name in brackets after what a grammar is, as [`Tagged`], is the type of the code that reads and writes by it.
 {rules}
 
 Notation: `(x : A) × B` is a pair whose second part may speak of the first one; `.0` and `.1`, or a name, is a part of a value;
-`record g {{ .. }}` is `g` with other rows; `abbrev` introduces a synonym; `◌` marks the position of an operand. Of the kit,
+`record g {{ .. }}` is `g` with other rows; `abbrev` introduces a synonym; `◌` marks the position of an operand. `⊤` and `Unit {{0}}` hold, and `⊥`
+does not. The first clause of a definition that matches counts. `0x30` is hexadecimal; in comments octets are written without `0x`, and other
+numbers are decimal. The prefixes `reasons.`, `faults.` and `tails.` precede variants of the types of the code. Of the kit,
 `IfSome`, `IfOk` and `IfErr` say nothing in the other case, `slice_index` is 0 past the end of a list, and `AllZip` says that two lists are
 equally long.
 """
