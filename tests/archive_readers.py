@@ -617,7 +617,7 @@ def tar_readers() -> Dict[str, Read]:
 
 
 class Trick(NamedTuple):
-    """A container that was made by hand: what is said of a message in it, and words of the note. No words stand for no note."""
+    """A container that was made by hand: what is said of a message in it, and words of the note. No words mean that there is no note."""
 
     octets: bytes
     place: str
