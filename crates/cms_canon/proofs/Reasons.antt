@@ -1,5 +1,5 @@
 -- What the octets of a message that is refused say.
-use Rattle.std.proofs.Common.{◌≡◌, inl, inr, ℕ, ◌+◌, ◌<◌, ◌≤◌, ◌⊎◌, [], List, ◌++◌, length, length-append, Option, None, refl, sym, ap, subst, ◌∙◌, arith}
+use Rattle.std.proofs.Common.{◌≡◌, inl, inr, ℕ, true, ◌+◌, ◌<◌, ◌≤◌, ◌⊎◌, [], List, ◌++◌, length, length-append, Option, None, refl, sym, ap, subst, ◌∙◌, arith}
 use Rattle.std.proofs.lemmas.List.{append-nil}
 use Rattle.cms_tlv.specs.declared.fault.Fault.TheVariants as faults
 use Rattle.cms_tlv.specs.declared.fault.Reason.{Reason}
@@ -23,14 +23,14 @@ use Rattle.cms_canon.specs.Kinds.{message}
 use Rattle.cms_canon.specs.Reasons.{EndInHeader, SayWhy}
 use Rattle.cms_canon.specs.internal.Steps.{fresh}
 
-pub message_malformed : AreMalformed message.malformed
-message_malformed = record { within = λ reason b x. subst (IsMalformed reason) (sym x.2) (inside_it reason x.0 x.1 x.3 x.5) }
+pub message_malformed : AreMalformed message.has_paths message.malformed
+message_malformed = record { within = λ e reason b x. subst (IsMalformed reason) (sym x.2) (inside_it reason x.0 x.1 x.3 x.4) }
   where
     inside_it : (reason : Reason) (header b : List ℕ) → IsHeader 0x30 header
         → either_says content_info_fields.malformed (either_says time_stamp_req_fields.malformed time_stamp_resp_fields.malformed) reason b
         → IsMalformed reason (header ++ b)
     inside_it reason header b h (inl x) = fields_in reason header b h x
-    inside_it reason header b h (inr x) = after reason b (header_path h (omega arith)) ((both (in_turn integer request_rest) response).within reason b x)
+    inside_it reason header b h (inr x) = after reason b (header_path h (omega arith)) ((both (in_turn integer request_rest) response).within refl reason b x)
 
 later : (limit a b : ℕ) (reason : Reason) → a ≤ b → NeedsNoOctets limit a reason → NeedsNoOctets limit b reason
 later limit a b TooLarge l h = omega arith
@@ -72,7 +72,7 @@ module _ (left : Option (List ℕ)) (failures limit : ℕ) (s : State) (more : L
       → length s.done ≡ length more
   all_there h = sym (ap length (all_done h.none_kept))
 
-  tied_says : (reason : Reason) (at : ℕ) → (t : TiedLast (fresh left failures limit) s (faults.Refused reason at)) → SayWhy limit reason more
+  tied_says : (reason : Reason) (at : ℕ) → (t : TiedLast true (fresh left failures limit) s (faults.Refused reason at)) → SayWhy limit reason more
   tied_says TooLarge at (before, p, inl x) = inl (lacks_more TooLarge x)
   tied_says TooLarge at (before, p, inr h) = inr (subst (λ n. EndInHeader more (λ t l. (m : ℕ) × IsLength l m × (limit < n + m))) (all_there h) (in_header p h))
   tied_says LengthReserved at (before, p, inl x) = absurd x
@@ -103,7 +103,7 @@ module _ (left : Option (List ℕ)) (failures limit : ℕ) (s : State) (more : L
   malformed_says NotSignedData m = m
   malformed_says reason m = absurd m
 
-  pub octets_say : (reason : Reason) (at : ℕ) → SaysWhy IsMalformed (fresh left failures limit) s (faults.Refused reason at) → SayWhy limit reason more
+  pub octets_say : (reason : Reason) (at : ℕ) → SaysWhy true IsMalformed (fresh left failures limit) s (faults.Refused reason at) → SayWhy limit reason more
   octets_say reason at (inl h) = tied_says reason at h
   octets_say reason at (inr m) = malformed_says reason (subst (IsMalformed reason) (sym (all_done m.none_kept ∙ m.taken)) m.says)
 

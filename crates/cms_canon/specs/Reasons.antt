@@ -9,8 +9,8 @@ use Rattle.cms_tlv.specs.Frames.{IsPath}
 use Rattle.cms_tlv.specs.Headers.{IsConstructed, IsIdentifier, IsLength}
 use Rattle.cms_scalars.specs.Malformed.{IsMalformed}
 
---- `EndInHeader octets P`: they are a path to an element, its identifier octets, which begin with
----   `first`, and `sizes`, with `P first sizes` [X.690, 8.1.2, 8.1.3]
+--- `EndInHeader octets P`: `octets` are a path, then identifier octets that begin with `first`, then
+---   octets `sizes`, with `P first sizes` [X.690, 8.1.2, 8.1.3]
 pub record EndInHeader (octets : List ℕ) (P : ℕ → List ℕ → Type 0) : Type 0 where
   pub before : List ℕ
   pub identifier : List ℕ
@@ -27,7 +27,7 @@ pub record EndInHeader (octets : List ℕ) (P : ℕ → List ℕ → Type 0) : T
 --- | E4: they end in a first length octet from 89 to FE [ours]
 --- | E5: they end in the length octet 80 of a primitive element [X.690, 8.1.3.2]
 --- | E8 to E11 and E17: they are `IsMalformed`
---- | E18: nothing says so; any other reason: no condition
+--- | E18: never; any other reason: no condition
 abbrev pub SayWhy : ℕ → Reason → List ℕ → Type 0
 SayWhy limit TooLarge octets =
     (limit ≤ length octets)

@@ -1,19 +1,22 @@
 -- What passes the tests of octets.
-use Rattle.std.proofs.Common.{◌≡◌, ℕ, zero, suc, ◌<◌, ◌≤◌, ◌/◌, ◌%◌, Bool, true, false, not, sym, ◌∙◌, ap, subst, arith, inl, inr, ◌⊎◌}
+use Rattle.std.proofs.Common.{◌≡◌, ℕ, zero, suc, ◌<◌, ◌≤◌, ◌/◌, ◌%◌, Bool, true, false, not, List, refl, sym, ◌∙◌, ap, subst, arith, inl, inr, ◌⊎◌}
 use Rattle.std.specs.Prelude.{nat_lt, ◌==◌, ◌&&◌}
 use Rattle.std.specs.Cmp.{first_so, second_so}
 use Rattle.std.proofs.lemmas.Bool.{cases_lt, eqb-true}
 use Rattle.std.proofs.lemmas.Bool.Decides.{Decides-ltb}
-use Rattle.cms_tlv.specs.Headers.{IsConstructed}
+use Rattle.cms_tlv.specs.Frames.{IsPath}
+use Rattle.cms_tlv.specs.Headers.{IsConstructed, IsHeader}
+use Rattle.cms_tlv.specs.RefusalReasons.{IsPathIf}
 use Rattle.cms_tlv.specs.Law.{IsFieldOctet}
 use Rattle.cms_tlv.proofs.Inverse.{eqb_yes}
-use Rattle.cms_fields.specs.FirstOctets.{is_field_octet, is_constructed_octet, is_primitive_octet, are_apart}
+use Rattle.cms_tlv.proofs.Paths.{header_path, path_if}
+use Rattle.cms_fields.specs.FirstOctets.{is_field_octet, is_constructed, is_primitive_octet, are_apart}
 use Rattle.cms_fields.proofs.CanonicalLaws.{both_true}
 
 not_so : (s : Bool) → not s ≡ true → s ≡ true → ⊥
 not_so s p q = absurd (let z : false ≡ true = sym (ap not q) ∙ p in cc)
 
-is_octet : (id : ℕ) → is_field_octet id ≡ true → IsFieldOctet id
+pub is_octet : (id : ℕ) → is_field_octet id ≡ true → IsFieldOctet id
 is_octet id e =
     let h = second_so (nat_lt id 0x100) (not (id % 32 == 31) && not (id == 0)) e in
     record {
@@ -22,11 +25,13 @@ is_octet id e =
       not_0 = λ k. not_so (id == 0) (second_so (not (id % 32 == 31)) (not (id == 0)) h) (eqb_yes id 0 k);
     }
 
-pub is_constructed : (id : ℕ) → is_constructed_octet id ≡ true → IsFieldOctet id × IsConstructed id
-is_constructed id e = (
-  is_octet id (first_so (is_field_octet id) ((id / 32) % 2 == 1) e),
-  eqb-true ((id / 32) % 2) 1 (second_so (is_field_octet id) ((id / 32) % 2 == 1) e),
-)
+-- The header of a constructed element is a path.
+pub header_paths : (id : ℕ) (others : Bool) (b : List ℕ) → IsHeader id b → IsPathIf (is_constructed id && others) b
+header_paths id others b h = go (is_constructed id) (λ e. header_path h (eqb-true ((id / 32) % 2) 1 e))
+  where
+    go : (c : Bool) → (c ≡ true → IsPath b) → IsPathIf (c && others) b
+    go true p = path_if others (p refl)
+    go false p = tt
 
 pub is_primitive : (id : ℕ) → is_primitive_octet id ≡ true → IsFieldOctet id × (IsConstructed id → ⊥)
 is_primitive id e = (

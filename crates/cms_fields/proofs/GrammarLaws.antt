@@ -1,6 +1,6 @@
 -- Each combinator of grammars keeps the laws.
 use Rattle.std.proofs.Common.{◌≡◌, ◌≢◌, ℕ, Bool, true, false, List, Option, None, Some, refl, sym, ◌∙◌, subst}
-use Rattle.std.specs.Prelude.{IfSome}
+use Rattle.std.specs.Prelude.{IfSome, ◌&&◌}
 use Rattle.std.specs.Cmp.{first_so, second_so}
 use Rattle.cms_tlv.specs.declared.fault.Reason.{Reason}
 use Rattle.cms_tlv.specs.declared.fault.Reason.TheVariants.{Truncated}
@@ -13,10 +13,11 @@ use Rattle.cms_tlv.proofs.Elements.{scalar_reads}
 use Rattle.cms_tlv.proofs.Judged.{where_reads}
 use Rattle.cms_tlv.specs.RefusalReasons.{IsFree}
 use Rattle.cms_tlv.proofs.Why.{scalar_explained, opaque_explained, constrained_explained}
+use Rattle.cms_fields.specs.FirstOctets.{is_constructed}
 use Rattle.cms_fields.specs.Readers.{constrained_of, last_of, last_optional_of}
 use Rattle.cms_fields.specs.Received.{IsOpaqueAmong}
 use Rattle.cms_fields.specs.Grammar.{Grammar, IsReadBy, FieldLaws, ContentsLaws, IsLawful, unread, tagged, primitive, where_only, constrained, opaque_element, opaque_among, already_der, choice, then_by, optional_then, last, last_optional, contents_choice, selected}
-use Rattle.cms_fields.proofs.FirstOctetLaws.{is_constructed, is_primitive}
+use Rattle.cms_fields.proofs.FirstOctetLaws.{is_octet, is_primitive, header_paths}
 use Rattle.cms_fields.proofs.CanonicalLaws.{element_framed, where_framed, opaque_framed}
 use Rattle.cms_fields.proofs.DerLaws.{element_by_der, received_by_der, where_by_der, then_by_der, maybe_by_der, optional_by_der}
 use Rattle.cms_fields.proofs.ReaderLaws.{tagged_reads, tagged_field, begins_as, opaque_as_received, opaque_is_field, where_field, where_reads_to, where_begins, both_read, then_begins, maybe_both_read, maybe_begins, avoids, optional_begins}
@@ -25,7 +26,7 @@ use Rattle.cms_fields.proofs.ContentsChoiceLaws.{contents_clash, contents_choice
 use Rattle.cms_fields.proofs.ContentsChoiceLaws as chosen
 use Rattle.cms_fields.proofs.SelectedLaws.{by_value_contents, by_value_reads, by_value_by_der, followed_begins, selected_known}
 use Rattle.cms_fields.proofs.AmongLaws.{among_field, among_reads, among_framed}
-use Rattle.cms_fields.proofs.WhyFields.{holding_told, then_told, optional_then_told, last_told, last_optional_told, opaque_among_told, already_der_told, choice_told, selected_told, constrained_contents_told}
+use Rattle.cms_fields.proofs.WhyFields.{always_told, left_told, right_told, holding_told, then_told, optional_then_told, last_told, last_optional_told, opaque_among_told, already_der_told, choice_told, selected_told, constrained_contents_told}
 use Rattle.cms_fields.proofs.AlreadyDerLaws.{strict_reads, strict_field, strict_framed, strict_by_der}
 
 no : {A : Type 0} {t : Bool} → t ≡ false → t ≡ true → A
@@ -49,8 +50,7 @@ lawful_unread R P s = record { field = λ e. no refl e; contents = λ e. no refl
 
 pub lawful_tagged : {V : Type 0} (id : ℕ) (g : Grammar V) → IsLawful g → IsLawful (tagged id g)
 lawful_tagged id g h = field_lawful (tagged id g) refl (λ s.
-    let c = is_constructed id (first_so _ _ s) in
-    let o = c.0 in
+    let o = is_octet id (first_so _ _ s) in
     let k = h.contents (second_so _ _ s) in
     record {
       reads = λ m j. tagged_reads id o (k.reads_to m j);
@@ -58,7 +58,7 @@ lawful_tagged id g h = field_lawful (tagged id g) refl (λ s.
       is_value = λ m b v r. k.is_value m r.0 v r.2;
       by_der = element_by_der k.by_der id;
       framed = element_framed id o;
-      explained = holding_told id c.1 k.explained;
+      explained = holding_told id (header_paths id g.has_paths) (right_told (is_constructed id) k.explained);
     })
 
 pub lawful_primitive : (id : ℕ) (P : List ℕ → Type 0) (test : List ℕ → Bool) (malformed : Reason) → malformed ≢ Truncated
@@ -119,7 +119,7 @@ lawful_choice g h k l = field_lawful (choice g h) refl (λ s.
       is_value = λ m b v r. either_known (g.spelled m) (h.spelled m) (λ x. p.is_value m b x) (λ x. q.is_value m b x) v r;
       by_der = choice_by_der (field_clash (p.is_field der) (q.is_field der) apart) p.by_der q.by_der;
       framed = choice_framed p.framed q.framed;
-      explained = choice_told g.first p.explained q.explained;
+      explained = choice_told g.first (left_told h.has_paths p.explained) (right_told g.has_paths q.explained);
     })
 
 -- what may be there is a value
@@ -137,7 +137,7 @@ lawful_then g h k l = contents_lawful (then_by g h) refl (λ s.
       begins = λ m. then_begins (h.spelled m) (p.is_field m);
       is_value = λ m b v r. (p.is_value m r.0 v.0 r.3, q.is_value m r.1 v.1 r.4);
       by_der = then_by_der (p.is_field der) p.by_der q.by_der;
-      explained = then_told p.explained q.explained;
+      explained = then_told (left_told h.has_paths p.explained) (right_told g.has_paths q.explained);
     })
 
 pub lawful_optional_then : {V W : Type 0} (g : Grammar V) (h : Grammar W) → IsLawful g → IsLawful h → IsLawful (optional_then g h)
@@ -152,7 +152,7 @@ lawful_optional_then g h k l = contents_lawful (optional_then g h) refl (λ s.
       begins = λ m. maybe_begins (p.is_field m) (q.contents m) (q.begins m) apart;
       is_value = λ m b v r. (known_part (g.spelled m) g.is_value r.0 (λ x. p.is_value m r.0 x) v.0 r.3, q.is_value m r.1 v.1 r.4);
       by_der = maybe_by_der (p.is_field der) p.by_der q.by_der (avoids (p.is_field der) (q.contents der) (q.begins der) apart);
-      explained = optional_then_told g.first p.explained q.explained;
+      explained = optional_then_told g.first (left_told h.has_paths p.explained) (right_told g.has_paths q.explained);
     })
 
 pub lawful_last : {V : Type 0} (g : Grammar V) → IsLawful g → IsLawful (last g)
@@ -204,7 +204,8 @@ lawful_contents_choice g r h k n l = contents_lawful (contents_choice g r h) ref
           choice_by_der (contents_clash (r.spelled der) (p.is_field der) (q.contents der) (q.begins der) apart)
           (then_by_der (p.is_field der) p.by_der i.by_der) q.by_der;
       explained =
-          choice_told g.first (then_told p.explained i.explained) q.explained;
+          choice_told g.first (left_told h.has_paths (then_told (left_told r.has_paths p.explained) (right_told g.has_paths i.explained)))
+          (right_told (g.has_paths && r.has_paths) q.explained);
     })
 
 pub lawful_selected :
@@ -224,7 +225,7 @@ lawful_selected id P test malformed choose g h k n l = contents_lawful (selected
           (λ y z. q.is_value m r.1 y z) v.1 r.4 in (p.is_value m r.0 v.0 r.3, k.0, k.1));
       by_der = by_value_by_der choose (p.is_field der) p.by_der i.by_der q.by_der;
       explained =
-          selected_told choose p.explained i.explained q.explained;
+          selected_told choose (always_told (g.has_paths && h.has_paths) p.explained) (left_told h.has_paths i.explained) (right_told g.has_paths q.explained);
     })
 
 -- a further constraint on contents octets, decided by a test

@@ -115,7 +115,7 @@ pub found_of : {V A : Type 0} {m : Rules} {R : Spelling A} {f : Bound → Reader
 found_of h bd i view old new (Ok v) s g n = found h bd i view old new v (g (no_fault old new v s)) n
 found_of h bd i view old new (Err e) s g n = tt
 
-pub within_of : {V A : Type 0} {K : Reason → List ℕ → Type 0} {bd : Bound} {f : Reader A} → Explained K 1 bd f
+pub within_of : {paths : Bool} {V A : Type 0} {K : Reason → List ℕ → Type 0} {bd : Bound} {f : Reader A} → Explained paths K 1 bd f
     → (view : State → V → A) (old new : State) (r : Result V Fault) → FaultIsSticky old new r
     → (old.fault ≡ None → Refines view f old new r) → OnOk r (IsWithin bd new)
 within_of h view old new (Ok v) s g = ends_within view h (omega arith) old new (Ok v) (g (no_fault old new v s))

@@ -16,7 +16,8 @@ use Rattle.cms_tlv.specs.RefusalReasons.{says_malformed, says_nothing, says_then
 use Rattle.cms_tlv.specs.Law.{IsField, IsContents, Reads, ReadsTo}
 use Rattle.cms_fields.specs.Canonical.{IsByDer, IsDerFramed}
 use Rattle.cms_fields.specs.Choices.{choice_of, same_choice}
-use Rattle.cms_fields.specs.FirstOctets.{is_constructed_octet, is_primitive_octet, are_apart}
+use Rattle.cms_fields.specs.FirstOctets.{is_field_octet, is_constructed, is_primitive_octet}
+use Rattle.cms_fields.specs.FirstOctets.{are_apart}
 use Rattle.cms_fields.specs.Readers.{Begins, holding, then_of, optional_then_of, last_of}
 use Rattle.cms_fields.specs.Readers.{last_optional_of, constrained_of, opaque_among_of}
 use Rattle.cms_fields.specs.Readers.{already_der_of}
@@ -43,6 +44,9 @@ pub record Grammar (V : Type 0) : Type 1 where
   -- the rules by which it is read if and only if it is spelled
   --- `read_by`: the rules by which `reader` reads it if and only if it is spelled
   pub read_by : Rules → Bool
+  --- `has_paths`: each of its elements that hold parts is constructed, so that what is before a
+  ---   part is a path [X.690, 8.1.2.5]
+  pub has_paths : Bool
   --- `malformed`: for which reason octets are refused, from the first one of the field or contents
   ---   to the last one taken: as one of its parts says
   pub malformed : Reason → List ℕ → Type 0
@@ -54,14 +58,14 @@ IsReadBy g m = g.read_by m ≡ true
 --- `FieldLaws g`: by these rules the field `g` is read exactly (`Reads`); it is one (`IsField`),
 ---   and begins as `first` says;
 --- | what is spelled is a value; its DER is as `IsByDer` says, and frames in DER; the reader is
----   `Explained g.malformed`
+---   `Explained g.has_paths g.malformed`
 pub record FieldLaws {V : Type 0} (g : Grammar V) : Type 0 where
   pub reads : (m : Rules) → IsReadBy g m → Reads m (g.spelled m) g.reader
   pub is_field : (m : Rules) → IsField (λ t. g.first t ≡ true) (g.spelled m)
   pub is_value : (m : Rules) (b : List ℕ) (v : V) → g.spelled m b v → g.is_value v
   pub by_der : IsByDer g.same g.spelled
   pub framed : IsDerFramed (g.spelled der)
-  pub explained : (bd : Bound) → Explained g.malformed 1 bd (g.reader bd)
+  pub explained : (bd : Bound) → Explained g.has_paths g.malformed 1 bd (g.reader bd)
 
 --- `ContentsLaws g`: the same of contents (`ReadsTo`, `IsContents`, `Begins`), but that they are
 ---   frames
@@ -71,7 +75,7 @@ pub record ContentsLaws {V : Type 0} (g : Grammar V) : Type 0 where
   pub begins : (m : Rules) → Begins (λ t. g.first t ≡ true) (g.spelled m)
   pub is_value : (m : Rules) (b : List ℕ) (v : V) → g.spelled m b v → g.is_value v
   pub by_der : IsByDer g.same g.spelled
-  pub explained : (bd : Bound) → Explained g.malformed 0 bd (g.reader bd)
+  pub explained : (bd : Bound) → Explained g.has_paths g.malformed 0 bd (g.reader bd)
 
 --- `IsLawful g`: `FieldLaws` if it is a field, and `ContentsLaws` if it is contents
 pub record IsLawful {V : Type 0} (g : Grammar V) : Type 0 where
@@ -80,7 +84,7 @@ pub record IsLawful {V : Type 0} (g : Grammar V) : Type 0 where
 
 -- Fields.
 
---- `unread R P same`: what `R` spells, of a value with `P`; it has no reader of its own, and what
+--- `unread R P s`: what `R` spells, of a value with `P`; it has no reader of its own, and what
 ---   is made of it gives one [`Received`]
 abbrev pub unread : {V : Type 0} → (Rules → Spelling V) → (V → Type 0) → (V → V → Bool) → Grammar V
 unread R P s = record {
@@ -92,6 +96,7 @@ unread R P s = record {
   is_contents = false;
   reader = λ bd. refuse UnexpectedElement;
   read_by = λ m. false;
+  has_paths = true;
   malformed = says_nothing;
 }
 
@@ -99,28 +104,29 @@ unread R P s = record {
 abbrev pub octets_with : (List ℕ → Type 0) → Grammar (List ℕ)
 octets_with P = unread (λ m. as_received P) P bytes_eq
 
---- `tagged id g`: a constructed element with the identifier octet `id` that holds the contents `g`
----   [`Tagged`]
+--- `tagged id g`: an element with the identifier octet `id` that holds the contents `g` [`Tagged`]
 abbrev pub tagged : {V : Type 0} → ℕ → Grammar V → Grammar V
 tagged id g = record {
   spelled = λ m. element m id (g.spelled m);
   is_value = g.is_value;
   same = g.same;
   first = λ t. t == id;
-  is_field = is_constructed_octet id && g.is_contents;
+  is_field = is_field_octet id && g.is_contents;
   is_contents = false;
   reader = holding id g.reader;
   read_by = g.read_by;
+  has_paths = is_constructed id && g.has_paths;
   malformed = says_inside id g.malformed;
 }
 
 --- `primitive id P test reason`: a primitive element with contents `P`, else `reason` [`Primitive`]
 abbrev pub primitive : ℕ → (List ℕ → Type 0) → (List ℕ → Bool) → Reason → Grammar (List ℕ)
-primitive id P test malformed = record (tagged id (octets_with P)) {
+primitive id P test reason = record (tagged id (octets_with P)) {
   is_field = is_primitive_octet id;
-  reader = scalar_of id test malformed;
+  reader = scalar_of id test reason;
   read_by = λ m. true;
-  malformed = says_malformed id P malformed;
+  has_paths = true;
+  malformed = says_malformed id P reason;
 }
 
 --- `where_only g Q test reason`: `g` of a value with `Q`, else `reason` [`NonEmptySetOf`]
@@ -169,6 +175,7 @@ already_der g = record {
   is_contents = false;
   reader = already_der_of g.reader;
   read_by = λ m. g.read_by der;
+  has_paths = g.has_paths;
   malformed = g.malformed;
 }
 
@@ -187,6 +194,7 @@ choice g h = record {
   is_contents = false;
   reader = choice_of g.first g.reader h.reader;
   read_by = λ m. g.read_by m && h.read_by m;
+  has_paths = g.has_paths && h.has_paths;
   malformed = either_says g.malformed h.malformed;
 }
 
@@ -203,7 +211,8 @@ then_by g h = record {
   is_contents = g.is_field && h.is_contents;
   reader = then_of g.reader h.reader;
   read_by = λ m. g.read_by m && h.read_by m;
-  malformed = says_then g.malformed h.malformed;
+  has_paths = g.has_paths && h.has_paths;
+  malformed = says_then (g.has_paths && h.has_paths) g.malformed h.malformed;
 }
 
 --- `optional_then g h`: the field `g` or nothing, then the fields `h` [`OptionalThen`]
@@ -217,7 +226,8 @@ optional_then g h = record {
   is_contents = g.is_field && (h.is_contents && are_apart 0x100 g.first h.first);
   reader = optional_then_of g.first g.reader h.reader;
   read_by = λ m. g.read_by m && h.read_by m;
-  malformed = says_then g.malformed h.malformed;
+  has_paths = g.has_paths && h.has_paths;
+  malformed = says_then (g.has_paths && h.has_paths) g.malformed h.malformed;
 }
 
 --- `last g`: the field `g` as the last one of contents [`Last`]
@@ -239,6 +249,7 @@ last_optional g = record {
   is_contents = g.is_field;
   reader = last_optional_of g.first g.reader;
   read_by = g.read_by;
+  has_paths = g.has_paths;
   malformed = g.malformed;
 }
 
@@ -254,7 +265,9 @@ contents_choice g r h = record {
   is_contents = g.is_field && (r.is_contents && (h.is_contents && are_apart 0x100 g.first h.first));
   reader = choice_of g.first (then_of g.reader r.reader) h.reader;
   read_by = λ m. g.read_by m && (r.read_by m && h.read_by m);
-  malformed = either_says (says_then g.malformed r.malformed) h.malformed;
+  has_paths = g.has_paths && r.has_paths && h.has_paths;
+  malformed = either_says (says_then (g.has_paths && r.has_paths) g.malformed r.malformed)
+      h.malformed;
 }
 
 -- of the first kind if and only if t
@@ -265,7 +278,7 @@ is_of t (inr w) = t ≡ false
 --- `selected id P test reason chosen g h`: `primitive`, then `g` if `chosen`, else `h` [`Selected`]
 abbrev pub selected : {V W : Type 0} → ℕ → (List ℕ → Type 0) → (List ℕ → Bool) → Reason
     → (List ℕ → Bool) → Grammar V → Grammar W → Grammar (List ℕ × (V ⊎ W))
-selected id P test malformed chosen g h = record {
+selected id P test reason chosen g h = record {
   spelled = λ m. then_by_value (element m id (as_received P))
       (λ t. either_by (chosen t) (g.spelled m) (h.spelled m));
   is_value = λ v. P v.0 × is_of (chosen v.0) v.1 × is_either g.is_value h.is_value v.1;
@@ -273,7 +286,9 @@ selected id P test malformed chosen g h = record {
   first = λ t. t == id;
   is_field = false;
   is_contents = is_primitive_octet id && (g.is_contents && h.is_contents);
-  reader = selected_of chosen (scalar_of id test malformed) g.reader h.reader;
+  reader = selected_of chosen (scalar_of id test reason) g.reader h.reader;
   read_by = λ m. g.read_by m && h.read_by m;
-  malformed = says_then (says_malformed id P malformed) (either_says g.malformed h.malformed);
+  has_paths = g.has_paths && h.has_paths;
+  malformed = says_then (g.has_paths && h.has_paths) (says_malformed id P reason)
+      (either_says g.malformed h.malformed);
 }

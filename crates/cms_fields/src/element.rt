@@ -88,7 +88,7 @@ pub fn read_after_header<R: Input, const ID: u8, A: Fields>(
         → IfErr result (FaultsIn (A.grammar.spelled (rules_of inner.strict)) inner
         source.old source.new) }
     ensures why { A.grammar.is_contents ≡ true → source.old.fault ≡ None
-        → IfErr result (SaysWhy A.grammar.malformed source.old source.new) }
+        → IfErr result (SaysWhy A.grammar.has_paths A.grammar.malformed source.old source.new) }
 {
     A::law();
     source.standing()?;

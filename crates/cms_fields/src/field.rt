@@ -65,7 +65,7 @@ pub fn read<R: Input, T: Field>(source: &mut Source<R>, bound: &Bound) -> Result
         → IfOk result (λ v. T.grammar.is_value (T.value source.new.done v)) }
     ensures within { T.grammar.is_field ≡ true → OnOk result (IsWithin bound.now source.new) }
     ensures why { T.grammar.is_field ≡ true → source.old.fault ≡ None
-        → IfErr result (SaysWhy T.grammar.malformed source.old source.new) }
+        → IfErr result (SaysWhy T.grammar.has_paths T.grammar.malformed source.old source.new) }
 {
     T::law();
     T::read(source, bound)

@@ -116,7 +116,7 @@ none_length = record {
 }
 
 -- The octets before a refusal say why.
-pub none_told : (bd : Bound) → Explained says_nothing 0 bd (no_countersignatures_of bd)
+pub none_told : {paths : Bool} (bd : Bound) → Explained paths says_nothing 0 bd (no_countersignatures_of bd)
 unfolding no_countersignatures_of too_deep_of
 none_told bd =
     peeked_explained _ (λ o. branch_explained _ (may_be (λ t. true) o)

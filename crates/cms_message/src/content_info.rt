@@ -2,7 +2,7 @@
 //!
 //! What the content type selects is judged as soon as that was read, so E17 comes before any fault of
 //! the content.
-ghost use Rattle.std.specs.Prelude.{◌≡◌, None, IfErr, OnOk, OnErr};
+ghost use Rattle.std.specs.Prelude.{◌≡◌, None, true, IfErr, OnOk, OnErr};
 ghost use Rattle.cms_tlv.specs.Spelling.{der};
 ghost use Rattle.cms_tlv.specs.RefusalReasons.{SaysWhy};
 ghost use Rattle.cms_fields.specs.ReadingCalls.{ReadsContents};
@@ -66,7 +66,7 @@ pub fn read_content_info<R: Input>(
     ensures reads { ReadsContents content_info_fields inner ⟦<ContentInfoSpans as Write>⟧.value
         source.old source.new result }
     ensures why { source.old.fault ≡ None
-        → IfErr result (SaysWhy content_info_fields.malformed source.old source.new) }
+        → IfErr result (SaysWhy true content_info_fields.malformed source.old source.new) }
 {
     content_info_laws();
     read_after_header(source, inner)

@@ -33,7 +33,7 @@ pub fn content_info_laws()
         → ReadsTo m (content_info_fields.spelled m) (λ v. v) content_info_fields.reader }
     ensures by_der { IsByDer content_info.same content_info.spelled }
     ensures explained { (bd : Bound)
-        → Explained content_info_fields.malformed 0 bd (content_info_fields.reader bd) }
+        → Explained true content_info_fields.malformed 0 bd (content_info_fields.reader bd) }
 {
     ContentInfoFields::law();
     ContentInfoSpans::law();

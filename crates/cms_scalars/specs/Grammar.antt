@@ -85,5 +85,6 @@ default_false_then h = record {
   is_contents = h.is_contents && are_apart 0x100 (λ t. t == 0x01) h.first;
   reader = default_false_then_of h.reader;
   read_by = λ m. is_not_der m && h.read_by m;
-  malformed = says_then boolean_type.malformed h.malformed;
+  has_paths = h.has_paths;
+  malformed = says_then h.has_paths boolean_type.malformed h.malformed;
 }

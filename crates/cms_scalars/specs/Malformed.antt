@@ -12,8 +12,8 @@ use Rattle.cms_scalars.specs.Booleans.{truth}
 use Rattle.cms_scalars.specs.Bits.{IsNamedBits}
 use Rattle.cms_scalars.specs.ObjectIdentifiers.{id_signed_data}
 
---- `EndInElement octets id P`: they are a path to an element `id`, and that element, whose contents
----   have `P` [X.690, 8.1.1]
+--- `EndInElement octets id P`: `octets` are a path, and then an element `id` whose contents have `P`
+---   [X.690, 8.1.1]
 pub record EndInElement (octets : List ℕ) (id : ℕ) (P : List ℕ → Type 0) : Type 0 where
   pub before : List ℕ
   pub element : List ℕ
@@ -23,7 +23,8 @@ pub record EndInElement (octets : List ℕ) (id : ℕ) (P : List ℕ → Type 0)
   pub is_element : IsElement element id contents
   pub says : P contents
 
---- `EndInContentType octets P`: the same of an element 06, right after a header of 30 [RFC 5652, 3]
+--- `EndInContentType octets P`: `octets` are a path, then a header with the identifier octet 30, then
+---   an element 06 whose contents have `P` [RFC 5652, 3]
 pub record EndInContentType (octets : List ℕ) (P : List ℕ → Type 0) : Type 0 where
   pub before : List ℕ
   pub header : List ℕ
@@ -35,7 +36,7 @@ pub record EndInContentType (octets : List ℕ) (P : List ℕ → Type 0) : Type
   pub is_element : IsElement element 0x06 contents
   pub says : P contents
 
---- `IsMalformed reason octets`: what the octets end in; any other reason is for none:
+--- `IsMalformed reason octets`: what `octets` end in; of any other reason it is untrue:
 --- | E8 to E11: an element whose contents are no INTEGER, OBJECT IDENTIFIER, BOOLEAN or BIT STRING
 --- | E17: a content type that is an OBJECT IDENTIFIER, and not id-signedData [RFC 5652, 3]
 abbrev pub IsMalformed : Reason → List ℕ → Type 0

@@ -32,7 +32,7 @@ pub fn read_bool<R: Input>(source: &mut Source<R>, bound: &Bound) -> Result<bool
         (Faults (boolean (rules_of bound.now.strict)) bound.now source.old source.new) }
     ensures within { OnOk result (IsWithin bound.now source.new) }
     ensures why { source.old.fault ≡ None
-        → IfErr result (SaysWhy boolean_type.malformed source.old source.new) }
+        → IfErr result (SaysWhy true boolean_type.malformed source.old source.new) }
 {
     let contents = source.primitive(bound, BOOLEAN)?;
     if is_one(source.bytes(contents)) {

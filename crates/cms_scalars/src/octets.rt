@@ -185,7 +185,7 @@ pub fn read_octets<R: Input, const ID: u8>(
         source.old source.new result }
     ensures within { OnOk result (IsWithin bound.now source.new) }
     ensures why { source.old.fault ≡ None
-        → IfErr result (SaysWhy (octet_string_type ID).malformed source.old source.new) }
+        → IfErr result (SaysWhy true (octet_string_type ID).malformed source.old source.new) }
 {
     read_string(source, bound)
 }

@@ -20,7 +20,8 @@ set_of g = record {
   is_contents = g.is_field;
   reader = members_of g.reader;
   read_by = g.read_by;
-  malformed = says_later g.malformed;
+  has_paths = g.has_paths;
+  malformed = says_later g.has_paths g.malformed;
 }
 
 --- `some_of g`: a set of at least one field `g` (in `cms_setof`) [`NonEmptySetOf`]

@@ -1,24 +1,25 @@
 -- What reading opaque values refuses with E2 to E5, and for which octets.
-use Rattle.std.proofs.Common.{◌≡◌, inl, inr, ℕ, zero, suc, ◌+◌, ◌-◌, ◌/◌, ◌%◌, eqb, List, ◌∷◌, ◌++◌, Ok, Err, refl, subst, arith}
+use Rattle.std.proofs.Common.{◌≡◌, inl, inr, ℕ, zero, suc, ◌+◌, ◌-◌, ◌/◌, ◌%◌, Bool, true, eqb, List, ◌∷◌, ◌++◌, Ok, Err, refl, subst, arith}
 use Rattle.std.proofs.lemmas.Bool.{eqb-true}
 use Rattle.cms_tlv.specs.declared.fault.Reason.{Reason}
 use Rattle.cms_tlv.specs.declared.fault.Reason.TheVariants.{OpaqueNotDer, OpaqueTooDeep}
 use Rattle.cms_tlv.specs.declared.bound.Bound.{Bound}
 use Rattle.cms_tlv.specs.declared.bound.Header.{Header}
-use Rattle.cms_tlv.specs.Frames.{IsPath}
 use Rattle.cms_tlv.specs.Headers.{IsHeader}
 use Rattle.cms_tlv.specs.Opaque.{IsFramed}
 use Rattle.cms_tlv.specs.Reading.{Cursor, stop, Reader, ◌>>=◌, give, refuse, ends_here, expected_of, counted_of, is_framed, framing_fault, framed_header_of, all_of, to_end_of, framed_of, opaque_of}
 use Rattle.cms_tlv.proofs.Inverse.{okay, bad, chosen, branch, bind_err}
 use Rattle.cms_tlv.proofs.ReadingLaws.{Moves, moves_then}
 use Rattle.cms_tlv.specs.Refines.{NeedsNoOctets}
+use Rattle.cms_tlv.specs.RefusalReasons.{IsPathIf}
 use Rattle.cms_tlv.proofs.Ties.{Ties, TiesLast, at_once, stop_reason, lacks_later, expected_ties, counted_lacks}
 use Rattle.cms_tlv.proofs.OpaqueGives.{framing_free}
 use Rattle.cms_tlv.proofs.OpaqueReads.{FramedHead, head_of, framed_sound, opaque_cut}
-use Rattle.cms_tlv.proofs.Paths.{path_then, header_path, framed_path}
+use Rattle.cms_tlv.proofs.Paths.{path_if, path_then_if, header_path, framed_path}
 
-pub after_path : {c m : Cursor} {b : List ℕ} {reason : Reason} {at : ℕ} → IsPath b → Moves c b m → TiesLast m reason at → TiesLast c reason at
-after_path {b = b} h p t = record { prefix = b ++ t.prefix; path = path_then h t.path; last = t.last; moves = moves_then p t.moves; ties = t.ties }
+pub after_path : {paths : Bool} {c m : Cursor} {b : List ℕ} {reason : Reason} {at : ℕ} → IsPathIf paths b → Moves c b m → TiesLast paths m reason at
+    → TiesLast paths c reason at
+after_path {paths = paths} {b = b} h p t = record { prefix = b ++ t.prefix; path = path_then_if paths _ _ h t.path; last = t.last; moves = moves_then p t.moves; ties = t.ties }
 
 head_header : {bd : Bound} {c d : Cursor} {h : Header} (k : FramedHead bd c d h) → IsHeader h.ident ((h.ident ∷ k.more) ++ k.sizes)
 head_header {h = h} k = record {
@@ -46,8 +47,8 @@ framed_header_ties bd c {reason = reason} {at = at} e = elim (bind_err (expected
 
 module _ (f : Bound → Reader (Unit {0})) (dep : ℕ)
     (sound : (bd : Bound) (c d : Cursor) (u : Unit {0}) → f bd c ≡ Ok (u, d) → (b : List ℕ) × Moves c b d × IsFramed b dep)
-    (ties : (bd : Bound) (c : Cursor) (reason : Reason) (at : ℕ) → f bd c ≡ Err (stop reason at) → TiesLast c reason at) where
-  all_ties : (count : ℕ) (bd : Bound) (c : Cursor) {reason : Reason} {at : ℕ} → all_of count f bd c ≡ Err (stop reason at) → TiesLast c reason at
+    (ties : (bd : Bound) (c : Cursor) (reason : Reason) (at : ℕ) → f bd c ≡ Err (stop reason at) → TiesLast true c reason at) where
+  all_ties : (count : ℕ) (bd : Bound) (c : Cursor) {reason : Reason} {at : ℕ} → all_of count f bd c ≡ Err (stop reason at) → TiesLast true c reason at
   unfolding all_of
   all_ties zero bd c {at = at} e = at_once (framing c {e = OpaqueNotDer} tt e)
   all_ties (suc count) bd c {reason = reason} {at = at} e =
@@ -60,7 +61,7 @@ module _ (f : Bound → Reader (Unit {0})) (dep : ℕ)
       ]
 
 framed_ties : (left dep : ℕ) → left + dep ≡ 65 → (bd : Bound) (c : Cursor) {reason : Reason} {at : ℕ}
-    → framed_of left bd c ≡ Err (stop reason at) → TiesLast c reason at
+    → framed_of left bd c ≡ Err (stop reason at) → TiesLast true c reason at
 unfolding framed_of to_end_of
 framed_ties zero dep n bd c e = elim (bind_err (framed_header_of bd) (λ h. refuse OpaqueTooDeep) c e) [
   | inl x ↦ at_once (framed_header_ties bd c x)
@@ -83,5 +84,8 @@ framed_ties (suc left) dep n bd c {reason = reason} {at = at} e = elim (bind_err
       ]
 ]
 
-pub opaque_ties : (bd : Bound) (c : Cursor) (reason : Reason) (at : ℕ) → opaque_of bd c ≡ Err (stop reason at) → TiesLast c reason at
-opaque_ties bd c reason at e = framed_ties 64 1 refl bd c (opaque_cut bd c (stop reason at) e)
+pub opaque_ties : {paths : Bool} (bd : Bound) (c : Cursor) (reason : Reason) (at : ℕ) → opaque_of bd c ≡ Err (stop reason at)
+    → TiesLast paths c reason at
+opaque_ties {paths = paths} bd c reason at e =
+    let t = framed_ties 64 1 refl bd c (opaque_cut bd c (stop reason at) e) in
+    record { prefix = t.prefix; path = path_if paths t.path; last = t.last; moves = t.moves; ties = t.ties }

@@ -1,11 +1,12 @@
 -- What was taken before an element is a path.
 use Rattle.std.proofs.Common.{◌≡◌, ℕ, List, [], ◌∷◌, ◌++◌, length, length-append, refl, sym, ap, subst, ◌∙◌, append_assoc, arith}
 use Rattle.std.proofs.lemmas.List.{append-nil}
-use Rattle.std.specs.Prelude.{◌<◌, false}
+use Rattle.std.specs.Prelude.{◌<◌, Bool, true, false, ◌&&◌}
 use Rattle.cms_tlv.specs.Clauses.{Contains}
 use Rattle.cms_tlv.specs.Frames.{Frame, definite, indefinite, IsPath, start, past, into}
 use Rattle.cms_tlv.specs.Headers.{IsConstructed, IsHeader, IsIdentifier, IsLength, low, short}
 use Rattle.cms_tlv.specs.Opaque.{IsFramed}
+use Rattle.cms_tlv.specs.RefusalReasons.{IsPathIf}
 use Rattle.cms_tlv.proofs.FrameLaws.{identifier_some}
 use Rattle.cms_tlv.proofs.HeaderCuts.{identifier_cut, length_cut}
 use Rattle.cms_tlv.proofs.OpaqueReads.{framed_frame}
@@ -14,6 +15,25 @@ pub path_then : {a b : List ℕ} → IsPath a → IsPath b → IsPath (a ++ b)
 path_then start q = q
 path_then {b = b} (past {f = f} {c = c} h p) q = subst IsPath (sym (append_assoc f c b)) (past h (path_then p q))
 path_then {b = b} (into {h = h} {c = c} i k p) q = subst IsPath (sym (append_assoc h c b)) (into i k (path_then p q))
+
+-- The same if they have to be paths.
+pub path_if : (paths : Bool) {b : List ℕ} → IsPath b → IsPathIf paths b
+path_if true p = p
+path_if false p = tt
+
+pub path_then_if : (paths : Bool) (a b : List ℕ) → IsPathIf paths a → IsPathIf paths b → IsPathIf paths (a ++ b)
+path_then_if true a b p q = path_then p q
+path_then_if false a b p q = tt
+
+-- a path of the one record is one of both
+pub of_left : (paths others : Bool) (b : List ℕ) → IsPathIf paths b → IsPathIf (paths && others) b
+of_left true true b p = p
+of_left true false b p = tt
+of_left false others b p = tt
+
+pub of_right : (others paths : Bool) (b : List ℕ) → IsPathIf paths b → IsPathIf (others && paths) b
+of_right true paths b p = p
+of_right false paths b p = tt
 
 pub frame_path : {f : List ℕ} → Frame f → IsPath f
 frame_path {f = f} h = subst IsPath (append-nil f) (past h start)

@@ -22,6 +22,7 @@ use Rattle.cms_tlv.proofs.ReadingLaws.{Moves, moves_nothing, moves_then}
 use Rattle.cms_tlv.proofs.FrameLaws.{identifier_some}
 use Rattle.cms_tlv.proofs.OctetReads.{octet_sound}
 use Rattle.cms_tlv.proofs.NumberReads.{number_sound}
+use Rattle.cms_tlv.proofs.Paths.{path_if}
 use Rattle.cms_tlv.proofs.HeaderReads.{sized, opened, tag_part_sound, header_sound}
 
 pub stop_reason : {A : Type 0} {e f : Reason} {m n : ℕ} → bad {A = A} (stop e m) ≡ bad (stop f n) → e ≡ f
@@ -293,8 +294,8 @@ primitive_ties id bd c {reason = reason} {at = at} e = elim (bind_err (expected_
 ]
 
 -- behind what was read well, the last header
-pub at_once : {c : Cursor} {reason : Reason} {at : ℕ} → Ties c reason at → TiesLast c reason at
-at_once {c = c} t = record { prefix = []; path = start; last = c; moves = moves_nothing c; ties = t }
+pub at_once : {paths : Bool} {c : Cursor} {reason : Reason} {at : ℕ} → Ties c reason at → TiesLast paths c reason at
+at_once {paths = paths} {c = c} t = record { prefix = []; path = path_if paths start; last = c; moves = moves_nothing c; ties = t }
 
 -- Calls.
 
@@ -333,8 +334,8 @@ tied {new = new} p reason at k b m q (inl x) = inl (subst (λ n. NeedsNoOctets n
 tied p reason at k b m q (inr y) = inr (header_taken p b m reason k q y)
 
 pub tied_last_from : {A V : Type 0} (view : State → V → A) (f : Reader A) (old new : State) (r : Result V Fault)
-    → ((c : Cursor) (reason : Reason) (at : ℕ) → f c ≡ Err (stop reason at) → TiesLast c reason at) → Refines view f old new r
-    → KeepsNoneAhead old new → IfErr r (TiedLast old new)
+    → ((c : Cursor) (reason : Reason) (at : ℕ) → f c ≡ Err (stop reason at) → TiesLast true c reason at) → Refines view f old new r
+    → KeepsNoneAhead old new → IfErr r (TiedLast true old new)
 tied_last_from view f old new (Ok v) ties g k = tt
 tied_last_from view f old new (Err (faults.Refused reason at)) ties g k =
     let t = ties (cursor old (g.reaches.more ++ [])) reason (length new.done) (g.reaches.refines [] ∙ g.explained.2 [] (λ _. refl)) in

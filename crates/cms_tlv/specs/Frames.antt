@@ -38,9 +38,10 @@ pub data IsDerFrame : List ℕ → Type 0 where
   of_short_length : {t : ℕ} {i l : List ℕ} (c : List ℕ) → IsIdentifier t i
       → IsShortLength l (length c) → IsDerFrame (i ++ (l ++ c))
 
---- `IsPath b`: `b` is what may be before an element: whole frames, and headers of the constructed
----   elements that it is in, one after another [X.690, 8.1]
---- | `00 00`, which ends indefinite contents, is such a frame
+--- `IsPath b`: `b` is whole frames, and headers of constructed elements that are entered, one after
+---   another: a way to an element inside others [X.690, 8.1]
+--- | no length in these headers is compared with what follows; `00 00`, which ends indefinite
+---   contents, is such a frame
 pub data IsPath : List ℕ → Type 0 where
   start : IsPath []
   past : {f c : List ℕ} → Frame f → IsPath c → IsPath (f ++ c)

@@ -5,12 +5,14 @@ use Rattle.cms_tlv.specs.Spelling.{Spelling}
 
 --- `IsPrimitiveType k`: an element of the universal type with the tag number `k` has to be
 ---   primitive, as it is in DER [X.690, 8.2 to 8.8, 8.19, 8.23, 8.25, 10.2]
---- | this is not asked of ObjectDescriptor, REAL, RELATIVE-OID and TIME (7, 9, 13, 14) [ours]
+--- | this is not asked of ObjectDescriptor, REAL, RELATIVE-OID and TIME (7, 9, 13, 14), nor of tag
+---   numbers above 30 [ours]
 abbrev pub IsPrimitiveType : ℕ → Type 0
 IsPrimitiveType k = ((1 ≤ k) × (k ≤ 6)) ⊎ (k ≡ 10) ⊎ (k ≡ 12) ⊎ ((18 ≤ k) × (k ≤ 28)) ⊎ (k ≡ 30)
 
 --- `HasItsForm t`: an identifier octet `t` of such a type is primitive [X.690, 10.2]
---- | one of SEQUENCE or SET is constructed [X.690, 8.9.1, 8.11.1]
+--- | one of SEQUENCE or SET is constructed [X.690, 8.9.1, 8.11.1]; this is not asked of EXTERNAL,
+---   EMBEDDED PDV and CHARACTER STRING (8, 11, 29) [ours]
 pub record HasItsForm (t : ℕ) : Type 0 where
   pub primitive : IsConstructed t → t < 64 → IsPrimitiveType (t % 32) → ⊥
   pub constructed : (t ≡ 16) ⊎ (t ≡ 17) → ⊥

@@ -1,7 +1,7 @@
 -- Why reading stops: what the octets before say of the reason (X.690, 8.1.3 and the contents of
 -- each type).
 use Rattle.std.specs.Prelude.{◌≡◌, ℕ, ◌+◌, ◌<◌, ◌≤◌, List, [], ◌∷◌, ◌++◌, length, None, Ok, Err}
-use Rattle.std.specs.Prelude.{◌⊎◌, false}
+use Rattle.std.specs.Prelude.{◌⊎◌, Bool, true, false}
 use Rattle.cms_tlv.specs.declared.fault.Reason.{Reason}
 use Rattle.cms_tlv.specs.declared.fault.Reason.TheVariants.{TooLarge, LengthReserved, LengthTooLong}
 use Rattle.cms_tlv.specs.declared.fault.Reason.TheVariants.{IndefinitePrimitive, IntegerMalformed}
@@ -38,8 +38,14 @@ HeaderSays limit at t l NotSignedData = ⊥
 HeaderSays limit at t l Trailing = ⊥
 HeaderSays limit at t l reason = Unit {0}
 
---- `Lasts c reason at`, `Ties`, `TiesLast`: a pure reader stopped after such a header; or no octets
----   have to say why; the same of the last header, after a path (`IsPath`)
+-- A record that holds parts in a primitive element is none of X.690, so there is no path to them.
+--- `IsPathIf paths b`: if `paths`, `b` is a path (`IsPath`)
+abbrev pub IsPathIf : Bool → List ℕ → Type 0
+IsPathIf true b = IsPath b
+IsPathIf false b = Unit {0}
+
+--- `Lasts c reason at`, `Ties`, `TiesLast paths`: a pure reader stopped after such a header; or no
+---   octets have to say why; the same of the last header, after octets that `IsPathIf paths`
 pub record Lasts (c : Cursor) (reason : Reason) (at : ℕ) : Type 0 where
   pub identifier : List ℕ
   pub sizes : List ℕ
@@ -53,10 +59,10 @@ pub record Lasts (c : Cursor) (reason : Reason) (at : ℕ) : Type 0 where
 abbrev pub Ties : Cursor → Reason → ℕ → Type 0
 Ties c reason at = NeedsNoOctets c.limit at reason ⊎ Lasts c reason at
 
--- the same of the last header, after a path
-pub record TiesLast (c : Cursor) (reason : Reason) (at : ℕ) : Type 0 where
+-- the same of the last header, after octets that are a path if `paths`
+pub record TiesLast (paths : Bool) (c : Cursor) (reason : Reason) (at : ℕ) : Type 0 where
   pub prefix : List ℕ
-  pub path : IsPath prefix
+  pub path : IsPathIf paths prefix
   pub last : Cursor
   pub moves : Moves c prefix last
   pub ties : Ties last reason at
@@ -70,18 +76,18 @@ pub record Malforms (K : Reason → List ℕ → Type 0) (c : Cursor) (reason : 
   pub here : after.at ≡ at
   pub malformed : K reason octets
 
---- `HasCause K c reason at`: one of these
-abbrev pub HasCause : (Reason → List ℕ → Type 0) → Cursor → Reason → ℕ → Type 0
-HasCause K c reason at = TiesLast c reason at ⊎ Malforms K c reason at
+--- `HasCause paths K c reason at`: one of these
+abbrev pub HasCause : Bool → (Reason → List ℕ → Type 0) → Cursor → Reason → ℕ → Type 0
+HasCause paths K c reason at = TiesLast paths c reason at ⊎ Malforms K c reason at
 
---- `Explained K n bd f`: `f` takes at least `n` octets, none past the bound `bd`, which are a path;
----   and each of its refusals `HasCause`
-pub record Explained (K : Reason → List ℕ → Type 0) {A : Type 0} (n : ℕ) (bd : Bound)
+--- `Explained paths K n bd f`: `f` takes at least `n` octets, none past the bound `bd`, and they are
+---   a path if `paths`; each of its refusals `HasCause`
+pub record Explained (paths : Bool) (K : Reason → List ℕ → Type 0) {A : Type 0} (n : ℕ) (bd : Bound)
     (f : Reader A) : Type 0 where
   pub goes : (c d : Cursor) (v : A) → f c ≡ Ok (v, d) → (b : List ℕ) × Moves c b d × (n ≤ length b)
-      × (1 ≤ length b → EndsBefore bd.end d.at) × IsPath b
+      × (1 ≤ length b → EndsBefore bd.end d.at) × IsPathIf paths b
   pub cause : (c : Cursor) (reason : Reason) (at : ℕ) → f c ≡ Err (stop reason at)
-      → HasCause K c reason at
+      → HasCause paths K c reason at
 
 --- `IsFree reason`: with this reason no octets have to say why
 abbrev pub IsFree : Reason → Type 0
@@ -108,20 +114,19 @@ abbrev pub either_says : (Reason → List ℕ → Type 0) → (Reason → List �
     → Type 0
 either_says K L reason b = K reason b ⊎ L reason b
 
---- `says_later K`: what `K` says, after a path
-abbrev pub says_later : (Reason → List ℕ → Type 0) → Reason → List ℕ → Type 0
-says_later K reason b = (b₁ b₂ : List ℕ) × (b ≡ b₁ ++ b₂) × IsPath b₁ × K reason b₂
+--- `says_later paths K`: what `K` says, after octets that are a path if `paths`
+abbrev pub says_later : Bool → (Reason → List ℕ → Type 0) → Reason → List ℕ → Type 0
+says_later paths K reason b =
+    (b₁ b₂ : List ℕ) × (b ≡ b₁ ++ b₂) × IsPathIf paths b₁ × K reason b₂
 
---- `says_then K L`: what `K` says, or what `L` says after a path
-abbrev pub says_then : (Reason → List ℕ → Type 0) → (Reason → List ℕ → Type 0) → Reason → List ℕ
-    → Type 0
-says_then K L = either_says K (says_later L)
+--- `says_then paths K L`: what `K` says, or what `L` says after octets that are a path if `paths`
+abbrev pub says_then : Bool → (Reason → List ℕ → Type 0) → (Reason → List ℕ → Type 0) → Reason
+    → List ℕ → Type 0
+says_then paths K L = either_says K (says_later paths L)
 
---- `says_inside id K`: what `K` says, after the header of a constructed element with the identifier
----   octet `id`
+--- `says_inside id K`: what `K` says, after the header of an element with the identifier octet `id`
 abbrev pub says_inside : ℕ → (Reason → List ℕ → Type 0) → Reason → List ℕ → Type 0
-says_inside id K reason b =
-    (b₁ b₂ : List ℕ) × (b ≡ b₁ ++ b₂) × IsHeader id b₁ × IsConstructed id × K reason b₂
+says_inside id K reason b = (b₁ b₂ : List ℕ) × (b ≡ b₁ ++ b₂) × IsHeader id b₁ × K reason b₂
 
 -- Calls.
 
@@ -144,10 +149,12 @@ Tied old new (faults.Refused reason at) =
     ⊎ HeaderTaken old new (λ t l. HeaderSays old.limit (length new.done) t l reason)
 Tied old new e = Unit {0}
 
---- `TiedLast old new f`: the same of the last header, if a path was taken before it
-abbrev pub TiedLast : State → State → Fault → Type 0
-TiedLast old new e =
-    (before : List ℕ) × IsPath before × Tied (record old { done = old.done ++ before }) new e
+--- `TiedLast paths old new f`: the same of the last header, if octets were taken before it; they are
+---   a path if `paths`
+abbrev pub TiedLast : Bool → State → State → Fault → Type 0
+TiedLast paths old new e =
+    (before : List ℕ) × IsPathIf paths before
+    × Tied (record old { done = old.done ++ before }) new e
 
 --- `OctetsSay old new P`: since `old`, octets with `P` were taken, and none is kept ahead
 pub record OctetsSay (old new : State) (P : List ℕ → Type 0) : Type 0 where
@@ -156,9 +163,9 @@ pub record OctetsSay (old new : State) (P : List ℕ → Type 0) : Type 0 where
   pub none_kept : new.ahead ≡ None
   pub says : P octets
 
---- `SaysWhy K old new f`: of a refusal: it is `TiedLast`, or `K` says that it is for the octets
----   taken
-abbrev pub SaysWhy : (Reason → List ℕ → Type 0) → State → State → Fault → Type 0
-SaysWhy K old new (faults.Refused reason at) =
-    TiedLast old new (faults.Refused reason at) ⊎ OctetsSay old new (K reason)
-SaysWhy K old new e = Unit {0}
+--- `SaysWhy paths K old new f`: of a refusal: it is `TiedLast paths`, or `K` says that it is for the
+---   octets taken
+abbrev pub SaysWhy : Bool → (Reason → List ℕ → Type 0) → State → State → Fault → Type 0
+SaysWhy paths K old new (faults.Refused reason at) =
+    TiedLast paths old new (faults.Refused reason at) ⊎ OctetsSay old new (K reason)
+SaysWhy paths K old new e = Unit {0}

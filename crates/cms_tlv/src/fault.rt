@@ -87,7 +87,7 @@ impl Reason {
 /// Why a call ended early.
 #[derive(Clone, Copy, Debug, PartialEq, Eq, Error)]
 pub enum Fault {
-    /// The octets are refused, and `at` octets of the message were taken by then.
+    /// The octets are refused, and `at` octets of the input were taken by then.
     #[error("refused E{} {} at {at}", .reason.number(), .reason.name())]
     Refused { reason: Reason, at: u64 },
     /// The reader failed.

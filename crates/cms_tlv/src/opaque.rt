@@ -49,7 +49,7 @@ impl<R: Input> Source<R> {
         ensures found { IfOk result (λ s. Found opaque self.old self.new (seen self.new s)) }
         ensures faults { self.old.fault ≡ None
             → IfErr result (Faults opaque bound.now self.old self.new) }
-        ensures reasons { self.old.fault ≡ None → IfErr result (TiedLast self.old self.new) }
+        ensures reasons { self.old.fault ≡ None → IfErr result (TiedLast true self.old self.new) }
     {
         self.standing()?;
         self.opaque_without_fault(bound)

@@ -30,7 +30,7 @@ pub fn request_laws()
         → ReadsTo m (time_stamp_req_fields.spelled m) (λ v. v) time_stamp_req_fields.reader }
     ensures by_der { IsByDer time_stamp_req.same time_stamp_req.spelled }
     ensures explained { (bd : Bound)
-        → Explained time_stamp_req_fields.malformed 0 bd (time_stamp_req_fields.reader bd) }
+        → Explained true time_stamp_req_fields.malformed 0 bd (time_stamp_req_fields.reader bd) }
 {
     TimeStampReqFields::law();
     TimeStampReqSpans::law();
@@ -46,7 +46,7 @@ pub fn response_laws()
         → ReadsTo m (time_stamp_resp_fields.spelled m) (λ v. v) time_stamp_resp_fields.reader }
     ensures by_der { IsByDer time_stamp_resp.same time_stamp_resp.spelled }
     ensures explained { (bd : Bound)
-        → Explained time_stamp_resp_fields.malformed 0 bd (time_stamp_resp_fields.reader bd) }
+        → Explained true time_stamp_resp_fields.malformed 0 bd (time_stamp_resp_fields.reader bd) }
 {
     TimeStampRespFields::law();
     TimeStampRespSpans::law();

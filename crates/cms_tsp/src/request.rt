@@ -1,5 +1,5 @@
 //! TimeStampReq (RFC 3161, section 2.4.1).
-ghost use Rattle.std.specs.Prelude.{◌≡◌, None, IfErr, option_map};
+ghost use Rattle.std.specs.Prelude.{◌≡◌, None, true, IfErr, option_map};
 ghost use Rattle.std.specs.Option.{option_copied};
 ghost use Rattle.cms_tlv.specs.Spelling.{join};
 ghost use Rattle.cms_tlv.specs.RefusalReasons.{SaysWhy};
@@ -122,7 +122,7 @@ pub fn read_request<R: Input>(
     ensures reads { ReadsContents time_stamp_req_fields inner
         ⟦<TimeStampReqSpans as Write>⟧.value source.old source.new result }
     ensures why { source.old.fault ≡ None
-        → IfErr result (SaysWhy time_stamp_req_fields.malformed source.old source.new) }
+        → IfErr result (SaysWhy true time_stamp_req_fields.malformed source.old source.new) }
 {
     request_laws();
     read_after_header(source, inner)

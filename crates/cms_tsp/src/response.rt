@@ -2,7 +2,7 @@
 //!
 //! A failInfo without bits is not the same as no failInfo: it is kept, and written `03 01 00`. The
 //! parts of statusString are opaque.
-ghost use Rattle.std.specs.Prelude.{◌≡◌, ◌==◌, None, IfErr, option_map};
+ghost use Rattle.std.specs.Prelude.{◌≡◌, ◌==◌, None, true, IfErr, option_map};
 ghost use Rattle.std.specs.Option.{option_copied};
 ghost use Rattle.cms_tlv.specs.declared.tags.TheConstants.{SEQUENCE};
 ghost use Rattle.cms_tlv.specs.RefusalReasons.{SaysWhy};
@@ -107,7 +107,7 @@ pub fn read_response<R: Input>(
     ensures reads { ReadsContents time_stamp_resp_fields inner
         ⟦<TimeStampRespSpans as Write>⟧.value source.old source.new result }
     ensures why { source.old.fault ≡ None
-        → IfErr result (SaysWhy time_stamp_resp_fields.malformed source.old source.new) }
+        → IfErr result (SaysWhy true time_stamp_resp_fields.malformed source.old source.new) }
 {
     response_laws();
     read_after_header(source, inner)

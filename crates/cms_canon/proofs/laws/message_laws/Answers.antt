@@ -15,4 +15,4 @@ pub returns-clause-by_der : goal.returns-clause-by_der
 returns-clause-by_der c = (c.law.ensures.field refl).by_der
 
 pub returns-clause-explained : goal.returns-clause-explained
-returns-clause-explained c bd = wider message_malformed.within ((c.law.ensures.field refl).explained bd)
+returns-clause-explained c bd = wider (message_malformed.within refl) ((c.law.ensures.field refl).explained bd)

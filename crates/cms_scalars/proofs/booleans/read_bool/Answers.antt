@@ -1,4 +1,4 @@
-use Rattle.std.proofs.Common.{inr, ℕ, List, refl, sym, ap, ◌∙◌}
+use Rattle.std.proofs.Common.{inr, ℕ, true, List, refl, sym, ap, ◌∙◌}
 use Rattle.std.proofs.lemmas.Result.{err_from_is_err_and}
 use Rattle.cms_tlv.specs.declared.fault.Reason.TheVariants.{BooleanMalformed}
 use Rattle.cms_tlv.specs.Refines.{plain}
@@ -62,7 +62,7 @@ returns-else-is_one-clause-faults g c sound =
 
 pub returns-in_err-contents-clause-why : goal.returns-in_err-contents-clause-why
 returns-in_err-contents-clause-why g c sound =
-    says_why plain (boolean_told c.args.bound.now) _ _ c.from_residual.result (returns-in_err-contents-clause-refines g c sound)
+    says_why {paths = true} plain (boolean_told c.args.bound.now) _ _ c.from_residual.result (returns-in_err-contents-clause-refines g c sound)
 
 pub returns-else-is_one-clause-why : goal.returns-else-is_one-clause-why
-returns-else-is_one-clause-why g c sound = fault_says (boolean_told c.args.bound.now) _ _ _ (returns-else-is_one-clause-refines g c sound)
+returns-else-is_one-clause-why g c sound = fault_says {paths = true} (boolean_told c.args.bound.now) _ _ _ (returns-else-is_one-clause-refines g c sound)

@@ -1,3 +1,4 @@
+use Rattle.std.specs.Prelude.{true}
 use Rattle.cms_tlv.proofs.Public.{err_clause}
 use Rattle.cms_tlv.proofs.Rules.{follows}
 use Rattle.cms_tlv.proofs.Why.{says_why}
@@ -16,8 +17,8 @@ returns-clause-spelled g c s = record {
 
 pub returns-clause-within : goal.returns-clause-within
 returns-clause-within g c =
-    within_of (string_parts_told g.row.ID c.args.bound.now) _ _ _ c.read_string.result
+    within_of {paths = true} (string_parts_told g.row.ID c.args.bound.now) _ _ _ c.read_string.result
     c.read_string.ensures.sticky c.read_string.ensures.refines
 
 pub returns-clause-why : goal.returns-clause-why
-returns-clause-why g c sound = says_why _ (string_parts_told g.row.ID c.args.bound.now) _ _ c.read_string.result (c.read_string.ensures.refines sound)
+returns-clause-why g c sound = says_why {paths = true} _ (string_parts_told g.row.ID c.args.bound.now) _ _ c.read_string.result (c.read_string.ensures.refines sound)
