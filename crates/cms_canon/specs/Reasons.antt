@@ -9,7 +9,7 @@ use Rattle.cms_tlv.specs.Frames.{IsPath}
 use Rattle.cms_tlv.specs.Headers.{IsConstructed, IsIdentifier, IsLength}
 use Rattle.cms_scalars.specs.Malformed.{IsMalformed}
 
---- `EndInHeader octets P`: `octets` are a path, then identifier octets that begin with `first`, then
+--- `EndInHeader octets P`: `octets` are a path, then identifier octets that begin with `first`, and
 ---   octets `sizes`, with `P first sizes` [X.690, 8.1.2, 8.1.3]
 pub record EndInHeader (octets : List ℕ) (P : ℕ → List ℕ → Type 0) : Type 0 where
   pub before : List ℕ

@@ -21,7 +21,8 @@ AreZeros bs = AllByRecursion (λ b. b ≡ 0) bs
 abbrev pub HasNoTrailingZero : List ℕ → Type 0
 HasNoTrailingZero v = (before : List ℕ) → v ≡ before ++ 0 ∷ [] → ⊥
 
---- `MayFollow m zeros unused`: zeros; by DER there are none, and unused bits are 0 [X.690, 11.2]
+--- `MayFollow m zeros unused`: `zeros` are 0; by DER there are none, and `unused` are 0
+---   [X.690, 11.2]
 abbrev pub MayFollow : Rules → List ℕ → List ℕ → Type 0
 MayFollow ber zeros unused = AreZeros zeros
 MayFollow minimal zeros unused = AreZeros zeros

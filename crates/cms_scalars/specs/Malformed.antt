@@ -12,7 +12,7 @@ use Rattle.cms_scalars.specs.Booleans.{truth}
 use Rattle.cms_scalars.specs.Bits.{IsNamedBits}
 use Rattle.cms_scalars.specs.ObjectIdentifiers.{id_signed_data}
 
---- `EndInElement octets id P`: `octets` are a path, and then an element `id` whose contents have `P`
+--- `EndInElement octets id P`: `octets` are a path, then an element `id` whose contents have `P`
 ---   [X.690, 8.1.1]
 pub record EndInElement (octets : List ℕ) (id : ℕ) (P : List ℕ → Type 0) : Type 0 where
   pub before : List ℕ
@@ -23,8 +23,8 @@ pub record EndInElement (octets : List ℕ) (id : ℕ) (P : List ℕ → Type 0)
   pub is_element : IsElement element id contents
   pub says : P contents
 
---- `EndInContentType octets P`: `octets` are a path, then a header with the identifier octet 30, then
----   an element 06 whose contents have `P` [RFC 5652, 3]
+--- `EndInContentType octets P`: `octets` are a path, then a header with the identifier octet 30,
+---   then an element 06 whose contents have `P` [RFC 5652, 3]
 pub record EndInContentType (octets : List ℕ) (P : List ℕ → Type 0) : Type 0 where
   pub before : List ℕ
   pub header : List ℕ

@@ -80,10 +80,10 @@ pub record Malforms (K : Reason → List ℕ → Type 0) (c : Cursor) (reason : 
 abbrev pub HasCause : Bool → (Reason → List ℕ → Type 0) → Cursor → Reason → ℕ → Type 0
 HasCause paths K c reason at = TiesLast paths c reason at ⊎ Malforms K c reason at
 
---- `Explained paths K n bd f`: `f` takes at least `n` octets, none past the bound `bd`, and they are
----   a path if `paths`; each of its refusals `HasCause`
-pub record Explained (paths : Bool) (K : Reason → List ℕ → Type 0) {A : Type 0} (n : ℕ) (bd : Bound)
-    (f : Reader A) : Type 0 where
+--- `Explained paths K n bd f`: `f` takes at least `n` octets, none past the bound `bd`, and they
+---   are a path if `paths`; each of its refusals `HasCause`
+pub record Explained (paths : Bool) (K : Reason → List ℕ → Type 0) {A : Type 0} (n : ℕ)
+    (bd : Bound) (f : Reader A) : Type 0 where
   pub goes : (c d : Cursor) (v : A) → f c ≡ Ok (v, d) → (b : List ℕ) × Moves c b d × (n ≤ length b)
       × (1 ≤ length b → EndsBefore bd.end d.at) × IsPathIf paths b
   pub cause : (c : Cursor) (reason : Reason) (at : ℕ) → f c ≡ Err (stop reason at)
@@ -149,8 +149,8 @@ Tied old new (faults.Refused reason at) =
     ⊎ HeaderTaken old new (λ t l. HeaderSays old.limit (length new.done) t l reason)
 Tied old new e = Unit {0}
 
---- `TiedLast paths old new f`: the same of the last header, if octets were taken before it; they are
----   a path if `paths`
+--- `TiedLast paths old new f`: the same of the last header, if octets were taken before it; they
+---   are a path if `paths`
 abbrev pub TiedLast : Bool → State → State → Fault → Type 0
 TiedLast paths old new e =
     (before : List ℕ) × IsPathIf paths before
@@ -163,8 +163,8 @@ pub record OctetsSay (old new : State) (P : List ℕ → Type 0) : Type 0 where
   pub none_kept : new.ahead ≡ None
   pub says : P octets
 
---- `SaysWhy paths K old new f`: of a refusal: it is `TiedLast paths`, or `K` says that it is for the
----   octets taken
+--- `SaysWhy paths K old new f`: of a refusal: it is `TiedLast paths`, or `K` says that it is for
+---   the octets taken
 abbrev pub SaysWhy : Bool → (Reason → List ℕ → Type 0) → State → State → Fault → Type 0
 SaysWhy paths K old new (faults.Refused reason at) =
     TiedLast paths old new (faults.Refused reason at) ⊎ OctetsSay old new (K reason)
