@@ -351,7 +351,7 @@ refusal counts:
 
 - they are hopeless: no list of octets that begins with them begins with a message of at most 2^24 octets;
 - it is E1: they are the whole input, fewer than 2^24, and a proper prefix of a frame, though maybe of none that a message begins with;
-- it is E2: they are a message of at most 2^24 octets, and its DER has more;
+- it is E2: they are a message of at most 2^24 octets, and all DER of it has more (that there is some is not said here);
 - it is E18: they are a message, which has at most 2^24 octets as its DER has, and one octet that follows it.
 
 If they are hopeless, they also say why (`SayWhy`), and it is not E18:
