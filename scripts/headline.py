@@ -158,10 +158,20 @@ def is_grammar(definition: Definition) -> bool:
     return not definition.is_type and signature[ends[-1] + 1 :][:1] == ["Grammar"]
 
 
+def folded(lines: List[str], indent: str) -> List[str]:
+    """Returns the lines of a record with `..` at its end, or between its braces if nothing else is left there."""
+    *others, last = lines
+    if "}" not in last:
+        return [*lines, f"{indent}.."]
+    if others[-1].endswith("{"):
+        return [*others[:-1], f"{others[-1]} .. {last.strip()}"]
+    return [*others, f"{indent}..", last]
+
+
 def text_without(definition: Definition, fields: Set[str]) -> List[str]:
-    """Returns the lines of a definition without those that declare or give these fields; `..` is in their place."""
+    """Returns the lines of a definition without those that declare or give these fields; one `..` says that they are left out."""
     lines: List[str] = []
-    is_left_out = False
+    is_left_out, indent = False, ""
     for line in definition.lines:
         if is_left_out:
             is_left_out = not line.endswith(";")
@@ -173,9 +183,8 @@ def text_without(definition: Definition, fields: Set[str]) -> List[str]:
         while lines[-1].startswith(found[1] + "--"):
             lines.pop()
         is_left_out = "pub" not in found[0] and not line.endswith(";")
-        if lines[-1] != found[1] + "..":
-            lines.append(found[1] + "..")
-    return lines
+        indent = found[1]
+    return folded(lines, indent) if indent else lines
 
 
 def text_without_clauses(definition: Definition, constructor: str) -> List[str]:
@@ -382,7 +391,7 @@ The contracts reach {count} definitions of this repository, of {lines} lines. Th
 them. They rest on the types of the code, which come first, and on definitions of the kit, which are named last.
 
 A **grammar** says in its rows how a value is spelled, which values are the same, and more that serves reading. The contracts read only its
-rows {read}, and no definition here projects another one. So the other rows are left out, and `..` is in their place.
+rows {read}, and no definition here projects another one. So the other rows are left out, as `..` at the end of a record says.
 What a grammar hands to those rows alone is not read there either:
 {handed}.
 A name in brackets after what a grammar is, as [`Tagged`], is the type of the code that reads and writes by it.
