@@ -175,7 +175,7 @@ def _plain(part: Union[Signer, Time]) -> Row:
 
 
 def facts_of(found: Found, verifies: bool) -> Facts:
-    """Returns what is known of what was found. Want of memory ends this file alone."""
+    """Returns what is known of what was found. If memory runs out, that ends this file alone."""
     try:
         return judged(found, verifies)
     except MemoryError:

@@ -73,7 +73,7 @@ class Duplicates(NamedTuple):
 
 
 class Algorithm(NamedTuple):
-    """How many signers stand on these algorithms and this key."""
+    """How many signers use these algorithms and this key."""
 
     digest: Optional[str]
     signature: Optional[str]

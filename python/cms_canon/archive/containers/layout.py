@@ -40,13 +40,13 @@ _DOS_FOLDER = 0x10
 
 
 class End(NamedTuple):
-    """What the end of a zip says: where it is, how many octets the list of members before it has, and how many octets follow it."""
+    """What the end of a zip says: its place, how many octets the list of members before it has, and how many octets follow it."""
 
     at: int
     octets: int
     after: int
     numbers: Tuple[int, ...] = ()
-    """Those of the end record: disks, members, octets of the list and where it begins."""
+    """Those of the end record: disks, members, and the octets and the place of the list."""
     tail: bytes = b""
     """The octets before the end record that may belong to it."""
 

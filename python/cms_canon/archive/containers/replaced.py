@@ -1,6 +1,6 @@
 """Which members of a tar are not what is there once it is unpacked: a later member of the same name replaces an earlier one, whatever it is.
 
-Of each member 64 bits of its name are kept.
+64 bits of the name of each member are kept.
 """
 
 from __future__ import annotations

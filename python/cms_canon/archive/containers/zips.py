@@ -313,7 +313,7 @@ def _in_unsigning(whole: _Zip, name: str, info: zipfile.ZipInfo, search: Search)
 
 
 def _in_other(whole: _Zip, name: str, info: zipfile.ZipInfo, search: Search) -> Iterator[Found]:
-    """Gives what another member is. Of what is signed as one file, only members in which there is something are said."""
+    """Gives what another member is. If the zip is signed as one file, only members in which there is something are said."""
     is_said = whole.form == "zip"
     with whole.opened(info) as member:
         for it in search(whole.source.inner(name, member, info.file_size)):
