@@ -39,4 +39,6 @@ def folded(path: str) -> str:
     a name do not count."""
     if path.endswith(_ENDS) or "./" in path or " /" in path:
         path = "/".join(step.rstrip(". ") for step in path.split("/"))
+    if path.isascii():
+        return path if (lower := path.lower()) == path else lower
     return unicodedata.normalize("NFC", unicodedata.normalize("NFC", path).casefold())

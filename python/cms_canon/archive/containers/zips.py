@@ -24,7 +24,7 @@ Search = Callable[[Source], Iterator[Found]]
 ENDINGS = (".zip", ".jar", ".war", ".apk", ".xpi", ".asics", ".asice", ".scs", ".sce")
 MAGICS = (b"PK\3\4", b"PK\5\6")
 MOST_IN_DIRECTORY = 128 << 20  # octets of the list of members, which is read at once
-MOST_IN_ZIP = 250_000  # members of one zip, for each of which zipfile makes an object
+MOST_IN_ZIP = 80_000  # members of one zip, for each of which zipfile makes an object
 MOST_OF_A_BLOCK = 1 << 20  # octets before the list of members in which it is looked for which schemes of APK there are
 MOST_SIGNATURES = 1000  # of one JAR or ASiC container that are compared with its members
 MOST_SECTIONS = 1000  # of a manifest of a JAR, and two more for each member
@@ -44,15 +44,18 @@ def is_zip(source: Source) -> bool:
     return source.head[:4] in MAGICS or source.name.lower().endswith(ENDINGS)
 
 
-def _refuse_many(file: BinaryIO, end: End, budget: Budget) -> None:
-    """Raises `TooLarge` if a zip has more members than zipfile may make objects for. How many it says that it has is not believed."""
+def _refuse_many(file: BinaryIO, end: End, source: Source) -> None:
+    """Raises `TooLarge` if a zip has more members than zipfile may make objects for, or too many small ones. How many it says that it has is not
+    believed."""
     if end.octets > MOST_IN_DIRECTORY:
         raise TooLarge(f"its list of members has more than {MOST_IN_DIRECTORY:,} octets")
     begin = max(0, end.at - end.octets - LOCATORS)
-    budget.take(end.at - begin)
+    source.budget.take(end.at - begin)
     file.seek(begin)
-    if file.read(end.at - begin).count(ENTRY_MAGIC) > MOST_IN_ZIP:
+    members = file.read(end.at - begin).count(ENTRY_MAGIC)
+    if members > MOST_IN_ZIP:
         raise TooLarge(f"it has more than {MOST_IN_ZIP:,} members")
+    source.budget.take_zip(members, source.size)
 
 
 class _Unpacked(io.RawIOBase):
@@ -77,7 +80,7 @@ class _Zip:
     def __init__(self, source: Source, file: zipfile.ZipFile, end: End) -> None:
         self.source = source
         self.file = file
-        self.infos = {it.filename: it for it in file.infolist()}  # of equal names the last, as Java has it
+        self.infos = file.NameToInfo  # of equal names the last, as Java has it
         self._by_capitals = {capitals: name for name in self.infos if (capitals := name.upper()).startswith(_WITH_MEANING)}
         self._digests: Dict[str, Dict[str, bytes]] = {}
         self._signatures = 0
@@ -222,10 +225,12 @@ def in_zip(source: Source, search: Search) -> Iterator[Found]:
     """Gives what is signed in a zip, and what its members are; last the zip itself, with what kind of file it is."""
     file = source.begun()
     end = end_of(file)
-    _refuse_many(file, end, source.budget)
+    _refuse_many(file, end, source)
     with _opened(source, file, end) as opened:
+        opened.NameToInfo.pop("", None)
         for nameless in (it for it in opened.infolist() if not it.filename):
             nameless.filename = NO_NAME  # or zipfile would look for its last character
+            opened.NameToInfo[NO_NAME] = nameless
         whole = _Zip(source, opened, end)
         manifests = _manifests_of(whole)
         for info in opened.infolist():
