@@ -289,7 +289,7 @@ def _swapped(it: Zip, name: bytes, random: Random) -> None:
 
 def _other_spelling(it: Zip, name: bytes, random: Random) -> None:
     text = name.decode()
-    spellings = (f"./{text}", f"x/../{text}", f"/{text}", f"{text}/", text.upper(), f"../{text}", text.replace("/", "\\"), f"{text}\0x", f"//{text}",
+    spellings = (f"./{text}", f"x/../{text}", f"/{text}", f"{text}/", text.upper(), f"../{text}", text.replace("/", "\\"), f"{text}\0x", f"//{text}", f"{text};1", f"\7{text}",
                  f"{text}/more", unicodedata.normalize("NFD", text))
     spelt = random.choice(spellings).encode()
     if random.random() < 0.3:
@@ -678,6 +678,11 @@ def zip_tricks(make: Maker) -> Dict[str, Trick]:
         "some.jar": Trick(Zip(members).written(), block, FITS),
         "other path.jar": Trick(Zip(renamed).written(), block, "does not fit", "A.class"),
         "hidden.jar": Trick(Zip([Member(b"A.class", OTHER, is_listed=False), *members]).written(), block, unclear, differ),
+        "version.zip": Trick(Zip([*plain, Member(b"doc;1", OTHER)]).written(), "doc.p7s", unclear, "two members have one name"),
+        "version of it.zip": Trick(Zip([Member(b"doc;12", DOCUMENT), Member(b"doc;12.p7s", der)]).written(), "doc;12.p7s", FITS, "readers differ on doc;12"),
+        "control character.zip": Trick(Zip([*plain, Member(b"do\7c", OTHER)]).written(), "doc.p7s", unclear, "two members have one name"),
+        "control character in it.zip": Trick(Zip([Member(b"do\7c", DOCUMENT), Member(b"do\7c.p7s", der)]).written(), "do\7c.p7s", FITS, "another path"),
+        "mode in the header.zip": Trick(Zip([replace(doc, local={"extra": LINK_OF_LIBARCHIVE}), signature]).written(), "doc.p7s", unclear, "two headers"),
         "dots at the end.zip": Trick(Zip([*plain, Member(b"doc. ", OTHER)]).written(), "doc.p7s", FITS, "on some file systems"),
         "capitals.jar": Trick(Zip([*members, Member(b"a.class", OTHER)]).written(), block, "fits, but covers only some files", "on some file systems"),
         "signed.apk": Trick(Zip(said, gap=apk_block(0x7109871A, 0xF05368C0)).written(), block, FITS, "an APK signing block of 64 octets"),
@@ -749,6 +754,9 @@ def asic_tricks(make: Maker) -> Dict[str, Trick]:
         "none.asice": Trick(container(signature, make.cms(b"another"), other, mine), signature, "does not fit", words),
         "signed for another.asice": Trick(container(signature, make.cms(other), other, mine), signature, "does not fit", words),
     }
+
+
+LINK_OF_LIBARCHIVE = struct.pack("<HHBHHL", 0x6C78, 9, 7, 3 << 8 | 20, 0, (stat.S_IFLNK | 0o777) << 16)  # by which bsdtar makes a link
 
 
 def unicode_path(name: bytes) -> bytes:

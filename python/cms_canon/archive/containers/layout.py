@@ -17,7 +17,7 @@ from itertools import chain, islice
 from operator import attrgetter
 from typing import BinaryIO, Dict, FrozenSet, Iterable, Iterator, NamedTuple, Sequence, Set, Tuple
 
-from .names import folded, path_of, paths_of
+from .names import folded, paths_in_zip
 from .sources import PIECE, Budget
 
 END_MAGIC, ENTRY_MAGIC, LOCAL_MAGIC = b"PK\5\6", b"PK\1\2", b"PK\3\4"
@@ -34,11 +34,11 @@ _ENTRY_OCTETS = 46
 _NONE, _NONE_64 = 0xFFFF, 0xFFFFFFFF  # in the place of a number that has 64 bits
 _ENCRYPTED, _DESCRIBED, _UTF_8 = 1, 8, 0x800
 _FLAGS = _ENCRYPTED | _DESCRIBED | 0x40 | _UTF_8 | 0x2000  # of these both headers of a member say the same
-_NUMBERS, _UNICODE_PATH = 1, 0x7075  # extra fields
+_NUMBERS, _UNICODE_PATH, _OF_LIBARCHIVE = 1, 0x7075, 0x6C78  # extra fields; bsdtar takes the last for what kind of file a member is
 _APK_MAGIC = b"APK Sig Block 42"
 _APK_SCHEMES = {0x7109871A: 2, 0xF05368C0: 3, 0x1B93AD61: 3}  # by the numbers of their parts of the block
 _DOS_FOLDER = 0x10
-_ODD_IN_NAME = re.compile(r"[^\x01-\x5b\x5d-\x7f]|\.\.|//|\A/|(?:\A|/)\.(?:/|\Z)")  # that is not one path of one spelling for all readers
+_ODD_IN_NAME = re.compile(r"[^ -\x5b\x5d-~]|;[0-9]*\Z|\.\.|//|\A/|(?:\A|/)\.(?:/|\Z)")  # that is not one path of one spelling for all readers
 
 
 # ---- the end of the file
@@ -150,8 +150,9 @@ class _Headers:
         is_same = is_same and (flags ^ info.flag_bits) & _FLAGS == 0 and method == info.compress_type
         is_same = is_same and not info.volume and header[_LOCAL.size : _LOCAL.size + name] == raw
         is_same = is_same and (not extras or _unicode_paths(extras) <= _unicode_paths(info.extra) | {raw})
-        odd, has_64 = "" if is_same else "its two headers differ", any(kind == _NUMBERS for kind, _ in _extras(extras))
-        return _Member(info, begin, begin + octets, begin + octets + info.compress_size, odd, has_64)
+        kinds = {kind for kind, _ in _extras(extras)}
+        odd = "" if is_same and _OF_LIBARCHIVE not in kinds else "its two headers differ"
+        return _Member(info, begin, begin + octets, begin + octets + info.compress_size, odd, _NUMBERS in kinds)
 
     def odd_end(self, member: _Member, following: int) -> str:
         """Returns why some readers may see another end of a member than that before what follows it; empty if none does."""
@@ -264,7 +265,7 @@ def _paths_for(info: zipfile.ZipInfo) -> Set[str]:
     """Returns where the names lead that readers have for a member."""
     if _is_plain(info):
         return {info.filename.rstrip("/")}
-    return {path for it in _spellings(info) for path in paths_of(it)}
+    return {path for it in _spellings(info) for path in paths_in_zip(it)}
 
 
 def _other_kind(info: zipfile.ZipInfo) -> str:
@@ -285,7 +286,8 @@ def _odd_name(info: zipfile.ZipInfo) -> str:
     if len(_spellings(info)) > 1 or "\0" in info.orig_filename:
         return "its name has other characters for some readers"
     path = name[:-1] if name.endswith("/") else name
-    return "" if path_of(name) == path and "\\" not in name else "some readers have another path for it"
+    is_one = paths_in_zip(name) == {path} and "\\" not in name
+    return "" if is_one else "some readers have another path for it"
 
 
 class _Paths:

@@ -9,6 +9,8 @@ from typing import List, Set
 READERS_DIFFER = "readers differ on "  # how a note begins that says so of a member or of the whole container
 _ENDS = (".", " ")
 _STEP = re.compile(r"[/\\]")
+_VERSION = re.compile(r";[0-9]*\Z")
+_LEFT_OUT = dict.fromkeys((*range(0x20), 0x7F, 0xA0, 0xFFFD))  # control characters and the octet ff, as it is read in one encoding or another
 
 
 def path_of(name: str, goes_back: bool = True) -> str:
@@ -27,6 +29,11 @@ def paths_of(name: str) -> Set[str]:
     if ".." not in name:
         return {path_of(name)}
     return {path_of(name), path_of(name, goes_back=False), path_of(name.rpartition("..")[2])}
+
+
+def paths_in_zip(name: str) -> Set[str]:
+    """Returns the same for a member of a zip: unzip leaves out a version, as `;1`, and control characters."""
+    return paths_of(name) | paths_of(_VERSION.sub("", name).translate(_LEFT_OUT))
 
 
 def differing(name: str, reason: str) -> str:
