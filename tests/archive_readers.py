@@ -13,10 +13,13 @@ Another kind of container is one more `Kind`: its generator, and the readers of 
 """
 
 import base64
+import bz2
+import gzip
 import hashlib
 import io
 import itertools
 import json
+import lzma
 import os
 import re
 import shutil
@@ -734,6 +737,25 @@ def tar_tricks(make: Maker) -> Dict[str, Trick]:
     }
 
 
+def packed_tricks(make: Maker) -> Dict[str, Trick]:
+    """Returns packed files of several streams: some readers stop after the first, and others go on, if something lies between them."""
+    message, zeros = make.cms(DOCUMENT, "-nodetach"), bytes(4)
+    tar = b"".join(it.written() for it in (Entry(b"doc", DOCUMENT), Entry(b"doc.p7s", make.cms(DOCUMENT)))) + bytes(512)
+    other = Entry(b"doc", OTHER).written() + END
+    words = "no further packed stream follows"
+    packings = {"gz": gzip.compress, "xz": lzma.compress, "bz2": bz2.compress}
+    found = {}
+    for ending, pack in packings.items():
+        first, second = pack(message[:500]), pack(message[500:])
+        found[f"two.p7m.{ending}"] = Trick(first + second, "", FITS)
+        found[f"zeros between.p7m.{ending}"] = Trick(first + zeros + second, "", "damaged", words)
+        found[f"zeros after.p7m.{ending}"] = Trick(first + second + zeros, "", FITS)
+        found[f"more after.p7m.{ending}"] = Trick(pack(message) + b"more", "", "damaged", words)
+        found[f"zeros in it.tar.{ending}"] = Trick(pack(tar) + zeros + pack(other), "doc.p7s", FITS, "what follows its damage")
+        found[f"cut.p7m.{ending}"] = Trick(first + second[:-9], "", "damaged", "end")
+    return found
+
+
 def asic_tricks(make: Maker) -> Dict[str, Trick]:
     """Returns containers in which two manifests name one signature, that is of the first, of the last, or of none."""
     signature, kind = "META-INF/signature001.p7s", "application/x-pkcs7-signature"
@@ -856,7 +878,7 @@ def judge_copy(home: Path) -> None:
     given = [int(it) for it in sys.argv[1:3] if it.isdigit()]
     number, seed = [*given, *[CONTAINERS, SEED][len(given) :]]
     random, of_zips = Random(seed), zip_readers()
-    tricks = {**zip_tricks(make), **tar_tricks(make), **asic_tricks(make)}
+    tricks = {**zip_tricks(make), **tar_tricks(make), **asic_tricks(make), **packed_tricks(make)}
     judge_tricks(archive, home / "by hand", tricks)
     judge_check(home, home / "listed" / "by hand", tricks)
     for some, readers in ((zip_kinds(make), of_zips), (tar_kinds(make), tar_readers())):
