@@ -16,7 +16,7 @@ from typing import Callable, Dict, Iterator, List, NamedTuple, Optional, Sequenc
 
 import cms_canon
 
-from .forms import Form, FormSignature, attachments_of, form_of
+from .forms import IN_NO_FIELD, MOST_OBJECTS, Form, FormSignature, attachments_of, form_of
 from .found import Class, Content, Found, Pieces, State, digest_of, is_message
 from .sources import PIECE, Budget, Source, TooLarge
 
@@ -35,7 +35,6 @@ _TRAILING = 18  # the reason of E18
 _SHA1_INSIDE = "adbe.pkcs7.sha1"
 _NO_CMS = "adbe.x509.rsa_sha1"
 _NOT_CONTENTS = "the ByteRange leaves out something else than /Contents"
-_IN_NO_FIELD = "no field of the form has this signature, so that readers do not show it"
 _OTHER_CONTENTS = "a field of the form has another /Contents for this ByteRange, so that readers differ"
 
 
@@ -185,7 +184,7 @@ class _Pdf:
         if self.form.why_unsure:
             return self.form.why_unsure
         if it.of_form is None:
-            return _IN_NO_FIELD
+            return IN_NO_FIELD
         return it.of_form.note if it.of_form.contents == padded else _OTHER_CONTENTS
 
     @property
@@ -256,6 +255,8 @@ def _in_attachments(source: Source, form: Form, search: Search) -> Iterator[Foun
             yield from _in_attachment(place, search(source.inner(it.name, file, 0 if it.filters else len(it.octets))))
         except zlib.error as why:
             yield Found(place, "PDF", Class.DAMAGED, len(it.octets), note=str(why))
+    if form.has_others:
+        yield Found("attachments", "PDF", Class.NOT_LOOKED_INTO, 0, note=f"files that are attached to pages: it has more than {MOST_OBJECTS:,} objects")
 
 
 def _in_attachment(place: str, found: Iterator[Found]) -> Iterator[Found]:
