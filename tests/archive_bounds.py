@@ -14,12 +14,14 @@ import subprocess
 import sys
 import time
 import zipfile
+import zlib
 from pathlib import Path
 from random import Random
-from typing import Dict, List, NamedTuple
+from typing import Dict, List, NamedTuple, Tuple
 
 from archive import count_if, judged_in_a_copy, tally, write_files, zipped
 from archive_containers import Maker
+from archive_documents_read import PLAIN, laid_out
 
 SEARCHING = 20  # seconds
 SEED = 4711
@@ -29,7 +31,9 @@ OF_A_MESSAGE = 0.3e-3  # seconds
 LEAST = 2  # seconds that any container may take
 MANIFEST = "META-INF/MANIFEST.MF"
 READING = """
-import json, re, sys, time
+import importlib, importlib.util, json, re, sys, time
+if importlib.util.find_spec("pikepdf"):  # which takes memory once
+    importlib.import_module("pikepdf")
 from cms_canon.archive import judging
 from cms_canon.archive.containers import files
 peak = lambda: int(re.search(r"VmHWM:\s*(\d+)", open("/proc/self/status").read())[1]) << 10
@@ -78,6 +82,16 @@ def zip_of(make: Maker, members: int, name: str, content: bytes, messages: int =
     return Evil(octets.getvalue(), directory, is_too_large)
 
 
+def pdf(others: Tuple[Tuple[int, bytes], ...], extra: bytes = b"") -> Evil:
+    octets = laid_out(PLAIN._replace(others=others, extra=extra))
+    return Evil(octets, len(octets), is_too_large=False)
+
+
+def in_stream(data: bytes, words: bytes) -> bytes:
+    packed = zlib.compress(data, 9)
+    return b"<< %s /Filter /FlateDecode /Length %d >>\nstream\n%s\nendstream" % (words, len(packed), packed)
+
+
 def evils(make: Maker) -> Dict[str, Evil]:
     plain, listed = b"Manifest-Version: 1.0\r\n\r\n", b"Name: a\nSHA-256-Digest: YQ==\n\n"
     return {
@@ -97,6 +111,12 @@ def evils(make: Maker) -> Dict[str, Evil]:
         "names with several paths.zip": zip_of(make, 79_990, "../\xe4/../a%d", b"x" * 430),
         "names in capitals.zip": zip_of(make, 79_990, "A/B/C/D/E/F/G/H/I/J/K/L/M/N/O/A%d", b"x" * 400),
         "messages.zip": zip_of(make, 20_000, "a%d", b"x", messages=20_000),
+        "fields.pdf": pdf(((1, b"<< /Type /Catalog /Pages 2 0 R /AcroForm << /Fields [%s] >> >>" % (b"null " * 2_000_000)),)),
+        "object streams.pdf": pdf(tuple((number, in_stream(b" " * 1000, b"/Type /ObjStm /N 0 /First 0")) for number in range(200, 5000))),
+        "large object stream.pdf": pdf(((200, in_stream(bytes(600 << 20), b"/Type /ObjStm /N 0 /First 0")),)),
+        "names of streams.pdf": pdf(((200, b"[%s]" % (b"/ObjStm /EF" * 500_000)),)),
+        "files.pdf": pdf(tuple((number, b"<< /EF << /F 3 0 R >> >>") for number in range(200, 19_000))),
+        "numbers.pdf": pdf((), extra=b"%" + b"1 0 " * 2_000_000 + b"\n" + b"%" + b"0" * 2_000_000 + b"\n"),
         "deep.asice": asice(make, b"<a>" * 1_000_000),
         "attributes.asice": asice(make, b"<a " + b"".join(b'a%d="" ' % it for it in range(1_000_000)) + b"/>", is_too_large=False),
         "text.asice": asice(make, b"<DigestValue>" + b"\n&#65;" * 2_000_000 + b"</DigestValue>", is_too_large=False),

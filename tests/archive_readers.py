@@ -628,10 +628,10 @@ class Trick(NamedTuple):
     words: str = ""
 
 
-def with_manifest(make: Maker, files: Dict[str, bytes], more: str = "") -> Dict[str, bytes]:
-    """Returns the members of a JAR whose signature file says more."""
-    listed = b"Manifest-Version: 1.0\r\n\r\n" + b"".join(section(name, octets) for name, octets in files.items())
-    signature = f"Signature-Version: 1.0\r\nSHA-256-Digest-Manifest: {base64.b64encode(digest(listed)).decode()}\r\n{more}\r\n".encode()
+def with_manifest(make: Maker, files: Dict[str, bytes], more: str = "", main: bytes = b"", version: str = "1.0", name: bytes = b"") -> Dict[str, bytes]:
+    """Returns the members of a JAR whose signature file says more, or whose manifest does, or says a name in another place of a section."""
+    listed = b"Manifest-Version: 1.0\r\n" + main + b"\r\n" + b"".join(name + section(it, octets) for it, octets in files.items())
+    signature = f"Signature-Version: {version}\r\nSHA-256-Digest-Manifest: {base64.b64encode(digest(listed)).decode()}\r\n{more}\r\n".encode()
     return {"META-INF/MANIFEST.MF": listed, "META-INF/A.SF": signature, "META-INF/A.RSA": make.cms(signature), **files}
 
 
@@ -640,6 +640,10 @@ def apk_block(*schemes: int) -> bytes:
     parts = b"".join(struct.pack("<QL", 8, it) + b"part" for it in schemes)
     size = struct.pack("<Q", len(parts) + 24)
     return size + parts + size + b"APK Sig Block 42"
+
+
+def zip_of(files: Dict[str, bytes]) -> bytes:
+    return Zip([Member(name.encode(), octets) for name, octets in files.items()]).written()
 
 
 def zip_tricks(make: Maker) -> Dict[str, Trick]:
@@ -686,6 +690,18 @@ def zip_tricks(make: Maker) -> Dict[str, Trick]:
         "control character.zip": Trick(Zip([*plain, Member(b"do\7c", OTHER)]).written(), "doc.p7s", unclear, "two members have one name"),
         "control character in it.zip": Trick(Zip([Member(b"do\7c", DOCUMENT), Member(b"do\7c.p7s", der)]).written(), "do\7c.p7s", FITS, "another path"),
         "mode in the header.zip": Trick(Zip([replace(doc, local={"extra": LINK_OF_LIBARCHIVE}), signature]).written(), "doc.p7s", unclear, "two headers"),
+        "underscore.zip": Trick(Zip([Member(b"x/_", DOCUMENT), Member(b"x/_.p7s", der), Member(b"x/.", OTHER)]).written(), "x/_.p7s", unclear, differ),
+        "underscores.zip": Trick(Zip([Member(b"x/__", DOCUMENT), Member(b"x/__.p7s", der), Member(b"x/..", OTHER)]).written(), "x/__.p7s", unclear, differ),
+        "of FAT.zip": Trick(Zip([Member(b"d-c", DOCUMENT), Member(b"d-c.p7s", der), Member(b"d\xc4c", OTHER, flags=0, listed={"system": 0})]).written(),
+                            "d-c.p7s", unclear, "two members have one name"),
+        "octet ff.zip": Trick(Zip([*plain, Member(b"do\xffc", OTHER, flags=0)]).written(), "doc.p7s", unclear, "two members have one name"),
+        "of a signature.jar": Trick(Zip([*members, Member(b"META-INF/SIG-EVIL.html", OTHER)]).written(), block, "fits, but covers only some files", "SIG-EVIL"),
+        "of some signature.jar": Trick(Zip([*members, Member(b"META-INF/SIG-A.abc", OTHER)]).written(), block, FITS),
+        "no version.jar": Trick(zip_of(with_manifest(make, {"doc": DOCUMENT}, version="2")), block, FITS, "readers differ on a signature file"),
+        "name later.jar": Trick(zip_of(with_manifest(make, {"doc": DOCUMENT}, name=b"A: b\r\n")), block, FITS, "readers differ on a manifest with a section"),
+        "versions.jar": Trick(zip_of(with_manifest(make, {"doc": DOCUMENT, "META-INF/versions/9/doc": OTHER}, main=b"Multi-Release: true\r\n")), block, FITS,
+                              "readers differ on members for which"),
+        "no versions.jar": Trick(zip_of(with_manifest(make, {"doc": DOCUMENT}, main=b"Multi-Release: true\r\n")), block, FITS),
         "dots at the end.zip": Trick(Zip([*plain, Member(b"doc. ", OTHER)]).written(), "doc.p7s", FITS, "on some file systems"),
         "capitals.jar": Trick(Zip([*members, Member(b"a.class", OTHER)]).written(), block, "fits, but covers only some files", "on some file systems"),
         "signed.apk": Trick(Zip(said, gap=apk_block(0x7109871A, 0xF05368C0)).written(), block, FITS, "an APK signing block of 64 octets"),
@@ -732,6 +748,12 @@ def tar_tricks(make: Maker) -> Dict[str, Trick]:
         "slash.tar": beside(differ, doc, signature, pax(("path", b"x/")), Entry(b"o", OTHER)),
         "size of a link.tar": beside(differ, doc, signature, pax(("size", b"512")), Entry(b"l", kind=b"2", link=b"o"), Entry(b"doc", OTHER)),
         "dots at the end.tar": beside("on some file systems", doc, signature, Entry(b"doc.", OTHER)),
+        "absolute hard link.tar": beside(differ, Entry(b"orig", DOCUMENT), Entry(b"doc", kind=b"1", link=b"/orig"), signature),
+        "hard link of steps.tar": beside(differ, Entry(b"orig", DOCUMENT), Entry(b"doc", kind=b"1", link=b"../orig"), signature),
+        "hard link of a dot.tar": beside("", Entry(b"./orig", DOCUMENT), Entry(b"./doc", kind=b"1", link=b"./orig"), signature),
+        "hard link before.tar": beside(differ, Entry(b"doc", kind=b"1", link=b"orig"), Entry(b"orig", DOCUMENT), signature),
+        "size by pax.tar": beside(differ, pax(("size", b"%d" % len(DOCUMENT))), replace(doc, octets=DOCUMENT, size=b"00000000005\0"), signature),
+        "same size by pax.tar": beside("", pax(("size", b"%d" % len(DOCUMENT))), doc, signature),
         "size.tar": beside(differ, doc, signature, Entry(b"o", Entry(b"doc", OTHER).written(), size=b"1_0")),
         "message by a hard link.tar": Trick(tar(doc, Entry(b"x", der), Entry(b"doc.p7s", kind=b"1", link=b"x")), "doc.p7s", FITS),
     }

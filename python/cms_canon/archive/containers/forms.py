@@ -255,6 +255,8 @@ def _values_of_fields(pikepdf: Any, root: Any) -> Iterator[Tuple[str, Any, str]]
     seen: Set[Tuple[int, int]] = set()
     while left:
         above, fields, is_top = left.pop()
+        if isinstance(fields, pikepdf.Array) and len(fields) > MOST_FIELDS:
+            raise _TooMany(f"its form has more than {MOST_FIELDS:,} fields, so that not all of its signatures are known")
         for it in fields if isinstance(fields, pikepdf.Array) else ():
             if not isinstance(it, pikepdf.Dictionary) or it.is_indirect and it.objgen in seen:
                 continue

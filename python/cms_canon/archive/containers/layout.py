@@ -22,7 +22,7 @@ from .sources import PIECE, Budget
 
 END_MAGIC, ENTRY_MAGIC, LOCAL_MAGIC = b"PK\5\6", b"PK\1\2", b"PK\3\4"
 LOCATORS = 76  # octets between the list of members and the end, if numbers have 64 bits
-MOST_OTHER_PATHS = 20_000  # of the members of one zip that are compared beside one of each
+MOST_OTHER_PATHS = 10_000  # of the members of one zip that are compared beside one of each
 _LONGEST_END = 65_600  # octets of the end with its comment
 _ALIGNED = 4096  # octets at whose multiples an APK signing block may begin
 _LONGEST_BLOCK = 16 << 20  # octets of an APK signing block

@@ -10,6 +10,9 @@ READERS_DIFFER = "readers differ on "  # how a note begins that says so of a mem
 _ENDS = (".", " ")
 _STEP = re.compile(r"[/\\]")
 _VERSION = re.compile(r";[0-9]*\Z")
+_OF_UNZIP = {".": "_", "..": "__"}
+_OF_OEM = (("+", b"\xbb\xbc\xbf\xc0\xc3\xc5\xc8\xc9\xce\xd9\xda"), ("-", b"\xc1\xc2\xc4\xca\xcb\xcd"), ("i", b"\xd5"), ("_", b"\xdc"), ("=", b"\xf2"))
+_FROM_OEM = {ord(character): other for other, octets in _OF_OEM for character in octets.decode("cp437")}  # as unzip has them in ASCII
 _LEFT_OUT = dict.fromkeys((*range(0x20), 0x7F, 0xA0, 0xFFFD))  # control characters and the octet ff, as it is read in one encoding or another
 
 
@@ -32,8 +35,10 @@ def paths_of(name: str) -> Set[str]:
 
 
 def paths_in_zip(name: str) -> Set[str]:
-    """Returns the same for a member of a zip: unzip leaves out a version, as `;1`, and control characters."""
-    return paths_of(name) | paths_of(_VERSION.sub("", name).translate(_LEFT_OUT))
+    """Returns the same for a member of a zip: unzip leaves out a version, as `;1`, and control characters, and writes others in their place."""
+    plain = _VERSION.sub("", name).translate(_LEFT_OUT)
+    steps = "/".join(_OF_UNZIP.get(it, it) for it in plain.split("/"))
+    return paths_of(name) | paths_of(plain) | {path_of(steps), path_of(steps.translate(_FROM_OEM))}
 
 
 def differing(name: str, reason: str) -> str:

@@ -249,6 +249,8 @@ class _Header(tarfile.TarInfo):
     """A header of a tar that takes no more memory and time than it may, and on which readers may differ if it is odd."""
 
     is_odd = False
+    own_size = 0
+    """Octets of the member, as this header says, whatever a header before it says."""
     before: bytes = b""
     """The kinds of the headers with values that lie before it."""
 
@@ -257,6 +259,7 @@ class _Header(tarfile.TarInfo):
         """Returns the same as `tarfile` does: in a third of the time, if the header is written as all programs write those of files."""
         header = cls._frombuf(buf, encoding, errors)
         header.is_odd = is_odd(buf)
+        header.own_size = header.size
         return header
 
     @classmethod
@@ -288,7 +291,7 @@ class _Header(tarfile.TarInfo):
         member: Any = super()._proc_member(file)
         if member is not self:
             member.before += self.type
-            member.is_odd |= self.is_odd or member.before not in _HEADERS_BEFORE or not suit(self.type, values, member)
+            member.is_odd |= self.is_odd or member.before not in _HEADERS_BEFORE or not suit(self.type, values, member, member.own_size)
         return member
 
     def _proc_gnusparse_10(self, *_) -> None:
