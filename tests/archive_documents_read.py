@@ -325,6 +325,11 @@ class Letter(NamedTuple):
     between: bytes = b"\r\n"
     coding: bytes = b"base64"
     value: Callable[[bytes], bytes] = lambda der: base64.encodebytes(der).replace(b"\n", b"\r\n")
+    end: bytes = b"--b--"
+    before: bytes = b""
+    """What lies before the first header."""
+    blank: bytes = b""
+    """What lies before the first header of the part that signs."""
 
 
 _DECOY = b"--c\r\n" + OTHER_PART + b"\r\n--c\r\nContent-Type: text/plain\r\n\r\n2\r\n--c--\r\n"
@@ -357,6 +362,18 @@ LETTERS: Dict[str, Letter] = {
     "another encoding": Letter(coding=b"base64 (really)"),
     "a preamble": Letter(decoy=b"A preamble.\r\n"),
     "a folded header": Letter(_KIND.replace(b"; ", b";\r\n\t")),
+    "a line that begins as a boundary": Letter(decoy=b"--bc\r\n" + OTHER_PART + b"\r\n"),
+    "a last boundary with more": Letter(decoy=b"--b--X\r\n"),
+    "a blank before the header of a part": Letter(blank=b"\t"),
+    "an encoded word": Letter(b'multipart/signed; boundary="=?us-ascii?Q?b?="', delimiter=b"--=?us-ascii?Q?b?=", end=b"--=?us-ascii?Q?b?=--"),
+    "a boundary in angles": Letter(b'multipart/signed; boundary="<b>"'),
+    "a boundary in apostrophes": Letter(b"multipart/signed; boundary=\"'b'\"", delimiter=b"--'b'", end=b"--'b'--"),
+    "a boundary that ends in a blank": Letter(b'multipart/signed; boundary="b "', delimiter=b"--b ", end=b"--b --"),
+    "an empty line before": Letter(before=b"\r\n"),
+    "a mark of UTF-8 before": Letter(before=b"\xef\xbb\xbf"),
+    "a form feed in the type": Letter(_KIND.replace(b"; ", b";\f ")),
+    "a control character": Letter(head=b"X-A: \1\r\n"),
+    "21 headers of the type": Letter(head=(b"Content-Type: " + _KIND + b"\r\n") * 20),
 }
 MAILS_SAID = {  # the state, and the note, of part 2; or why the mail is damaged
     "plain": (FITS, ""), "blanks after a boundary": (FITS, ""), "a preamble": (FITS, ""), "a folded header": (FITS, ""),
@@ -369,17 +386,24 @@ MAILS_SAID = {  # the state, and the note, of part 2; or why the mail is damaged
     "a quoted pair": (FITS, "parameters or comments"), "a line that is no header": (FITS, "a line among the headers"),
     "a blank before the colon": (FITS, "a line among the headers"), "a lone CR": (FITS, "a lone CR among the headers"),
     "an encoded multipart": (FITS, "said to be encoded"), "a lone CR before a boundary": (FITS, "lone CR beside a boundary"),
+    "a line that begins as a boundary": (FITS, "begins as a boundary"), "a last boundary with more": (FITS, "begins as a boundary"),
+    "a blank before the header of a part": (FITS, "a line among the headers"),
+    "an encoded word": (FITS, "parameters or comments"), "a boundary in angles": (FITS, "parameters or comments"),
+    "a boundary in apostrophes": (FITS, "parameters or comments"), "a boundary that ends in a blank": (FITS, "parameters or comments"),
+    "an empty line before": (FITS, "before the first header"), "a mark of UTF-8 before": (FITS, "before the first header"),
+    "a form feed in the type": (FITS, "parameters or comments"), "a control character": (FITS, "a control character among"),
+    "21 headers of the type": ("damaged", "more than 20 headers"),
     "characters that are not of base64": (FITS, "not of base64"), "an empty parameter": (FITS, "parameters or comments"),
 }
 
 
 def letter_of(letter: Letter, sign: Callable[[bytes], bytes]) -> bytes:
     """Returns a signed mail."""
-    signature = b"Content-Type: application/pkcs7-signature; name=smime.p7s\r\nContent-Transfer-Encoding: " + letter.coding + b"\r\n\r\n"
+    signature = letter.blank + b"Content-Type: application/pkcs7-signature; name=smime.p7s\r\nContent-Transfer-Encoding: " + letter.coding + b"\r\n\r\n"
     return (
-        b"From: a@example.org\r\n" * (not letter.head.startswith(b"X-0")) + letter.head + b"MIME-Version: 1.0\r\n" + letter.name + b" " + letter.kind
+        letter.before + b"From: a@example.org\r\n" * (not letter.head.startswith(b"X-0")) + letter.head + b"MIME-Version: 1.0\r\n" + letter.name + b" " + letter.kind
         + b"\r\n" + letter.after + b"\r\n" + letter.decoy + letter.delimiter + b"\r\n" + SIGNED_PART + letter.between + letter.delimiter + b"\r\n"
-        + signature + letter.value(sign(SIGNED_PART)) + b"\r\n--b--\r\n"
+        + signature + letter.value(sign(SIGNED_PART)) + b"\r\n" + letter.end + b"\r\n"
     )
 
 
@@ -458,6 +482,51 @@ def judge_odd_mails(archive, folder: Path, make) -> None:
     count_same("a mail in a digest", came, {"part 1/mail.2": FITS, "": "container"})
 
 
+QUOTED_SAID = {  # what is attached in quoted-printable, and whether all readers have the same octets for it
+    "plain": (b"%s", True), "blanks at the end of a line": (b"%s \r\n", False), "small letters": (b"%s=0a", False), "no digits": (b"%s=x", False),
+    "a lone CR": (b"%s\r.", False), "a soft line break": (b"=\r\n%s", True),
+}
+
+
+def judge_quoted(archive, folder: Path, make) -> None:
+    """What is attached in quoted-printable has a note if readers may decode it in another way."""
+    message = "".join(f"={octet:02X}" for octet in make.cms(b"signed", "-nodetach")).encode()
+    for name, (template, is_same) in QUOTED_SAID.items():
+        mail = b"From: a\r\nContent-Type: application/pkcs7-mime\r\nContent-Transfer-Encoding: quoted-printable\r\n\r\n" + template % message
+        _, facts = said_of(archive, write(folder, f"quoted, {name}.eml", Case(mail, "")))
+        note = facts["body"].note
+        count_if(f"quoted-printable: {name}", not note if is_same else "of quoted-printable" in note, note)
+
+
+def judge_boxes(archive, folder: Path, make) -> None:
+    """Lines that begin with From, which readers of an mbox take otherwise, have a note."""
+    for name, line, signed, words in (
+        ("quoted", b">From here on.\r\n", b"From here on.\r\n", "without >"), ("in the middle", b"From a@b Mon Jan  1 00:00:00 2024\r\n", b"", "begins with From"),
+        ("none", b"", b"", ""),
+    ):
+        part = SIGNED_PART + line
+        der = make.cms(SIGNED_PART + (signed or line))
+        box = b"From a@b Mon Jan  1 00:00:00 2024\n" + letter_of(Letter(), lambda _: der).replace(SIGNED_PART, part) + b"\n"
+        came, facts = said_of(archive, write(folder, f"{name}.mbox", Case(box, "")))
+        note = facts["mail 1!part 2"].note
+        count_if(f"an mbox, {name}", came["mail 1!part 2"] == FITS and (words in note if words else not note), came, note)
+
+
+def judge_leaves(archive, folder: Path, make) -> None:
+    """What lies in a text of a mail, or in a part of any type, is found; so is PEM after what seems to be a header."""
+    pem, der = make.cms(b"signed", "-nodetach", form="PEM"), base64.encodebytes(make.cms(b"signed", "-nodetach"))
+    pgp = b"-----BEGIN PGP SIGNED MESSAGE-----\nHash: SHA512\n\ntext\n-----BEGIN PGP SIGNATURE-----\n\nAAAA\n-----END PGP SIGNATURE-----\n"
+    coded = b"Content-Transfer-Encoding: base64\n\n" + der
+    for name, octets, place, wanted in (
+        ("text.eml", b"From: a\nSubject: x\n\n" + pem, "body", FITS), ("openpgp.eml", b"From: a\n\n" + pgp, "body", "other signed format"),
+        ("subject.pem", b"Subject: x\n" + pem, "body", FITS), ("application.eml", b"From: a\nContent-Type: application/cms\n" + coded, "body", FITS),
+        ("mixed.eml", b"From: a\nContent-Type: multipart/mixed; boundary=c\n\n--c\nContent-Type: x/y\n" + coded + b"\n--c--\n", "part 1", FITS),
+        ("words.eml", b"From: a\n\nSome words.\n", "", "container without message"),
+    ):
+        came, _ = said_of(archive, write(folder, name, Case(octets, "")))
+        count_if(f"a leaf of a mail: {name}", came.get(place) == wanted, came)
+
+
 def judge_line_ends(archive, folder: Path, make) -> None:
     """A part that was signed with LF as it is, as AS2 does it, fits with a note; with another octet it does not."""
     part = SIGNED_PART.replace(b"\r\n", b"\n") + b"\0\n"
@@ -504,6 +573,9 @@ def judge_copy(home: Path) -> None:
         judge_pdfs(archive, home / "pdfs", make, random, pdfs)
     judge_odd_mails(archive, home / "odd", make)
     judge_line_ends(archive, home / "odd", make)
+    judge_quoted(archive, home / "odd", make)
+    judge_boxes(archive, home / "odd", make)
+    judge_leaves(archive, home / "odd", make)
     judge_mails(archive, home / "mails", make, random, mails)
 
 
