@@ -8,6 +8,7 @@ Each container is read by a process of its own, which may take 64 MB more than w
 manifests that are worse, by putting together parts of them at random.
 """
 
+import base64
 import io
 import json
 import subprocess
@@ -92,6 +93,15 @@ def in_stream(data: bytes, words: bytes) -> bytes:
     return b"<< %s /Filter /FlateDecode /Length %d >>\nstream\n%s\nendstream" % (words, len(packed), packed)
 
 
+def signed_mail(make: Maker, text: bytes) -> Evil:
+    """Returns a mail that is signed as it would be with CRLF at the ends of lines."""
+    part = b"Content-Type: text/plain\n\n" + text
+    head = b'From: a\nContent-Type: multipart/signed; boundary="b"; protocol="application/pkcs7-signature"\n\n--b\n'
+    tail = b"\n--b\nContent-Type: application/pkcs7-signature\nContent-Transfer-Encoding: base64\n\n%s\n--b--\n"
+    mail = head + part + tail % base64.encodebytes(make.cms(part.replace(b"\n", b"\r\n")))
+    return Evil(mail, len(mail), is_too_large=False)
+
+
 def evils(make: Maker) -> Dict[str, Evil]:
     plain, listed = b"Manifest-Version: 1.0\r\n\r\n", b"Name: a\nSHA-256-Digest: YQ==\n\n"
     return {
@@ -111,6 +121,8 @@ def evils(make: Maker) -> Dict[str, Evil]:
         "names with several paths.zip": zip_of(make, 79_990, "../\xe4/../a%d", b"x" * 430),
         "names in capitals.zip": zip_of(make, 79_990, "A/B/C/D/E/F/G/H/I/J/K/L/M/N/O/A%d", b"x" * 400),
         "messages.zip": zip_of(make, 20_000, "a%d", b"x", messages=20_000),
+        "quoted.mbox": Evil(b"From a\nFrom: a\n\n" + b">From \n" * 4_000_000, 28_000_000, is_too_large=False),
+        "short lines.eml": signed_mail(make, b"a\n" * 5_000_000),
         "fields.pdf": pdf(((1, b"<< /Type /Catalog /Pages 2 0 R /AcroForm << /Fields [%s] >> >>" % (b"null " * 2_000_000)),)),
         "object streams.pdf": pdf(tuple((number, in_stream(b" " * 1000, b"/Type /ObjStm /N 0 /First 0")) for number in range(200, 5000))),
         "large object stream.pdf": pdf(((200, in_stream(bytes(600 << 20), b"/Type /ObjStm /N 0 /First 0")),)),

@@ -247,6 +247,15 @@ def _parts_in(body: bytes, boundary: bytes, budget: Budget) -> Iterator[bytes]:
         yield body[begin:]
 
 
+def _lines_in(octets: bytes) -> Iterator[bytes]:
+    """Gives octets in pieces of many whole lines, as what replaces something in a piece may take many times its memory."""
+    begin = 0
+    while begin < len(octets):
+        end = octets.find(b"\n", begin + PIECE) + 1 or len(octets)
+        yield octets[begin:end]
+        begin = end
+
+
 class _CanonicalLines:
     """Octets with CRLF at the end of each line, as they are signed (RFC 8551, section 3.1.1)."""
 
@@ -259,7 +268,11 @@ class _CanonicalLines:
         return b"\n" not in self._octets.replace(b"\r\n", b"")
 
     def __iter__(self) -> Iterator[Octets]:
-        yield self._octets if self.is_same else _LINE_END.sub(b"\r\n", self._octets)
+        if self.is_same:
+            yield self._octets
+            return
+        for piece in _lines_in(self._octets):
+            yield piece.replace(b"\r\n", b"\n").replace(b"\n", b"\r\n")
 
 
 class Mail:
@@ -427,7 +440,7 @@ def in_mbox(source: Source, search: Search) -> Iterator[Found]:
 
 def _in_one_of_a_box(mail: Mail, octets: bytes) -> Iterator[Found]:
     """Gives what is signed in a mail as it is, or as it was before `>` was put before `From `, if that is what was signed."""
-    unquoted = _QUOTED_FROM.sub(rb"\1", octets)
+    unquoted = b"".join(_QUOTED_FROM.sub(rb"\1", it) for it in _lines_in(octets))
     others = mail.found(unquoted) if unquoted != octets else iter(())
     for it in mail.found(octets):
         other = next(others, None)

@@ -33,6 +33,8 @@ _META_INF = "META-INF/"
 _WITH_MEANING = (_META_INF, "ANDROIDMANIFEST.XML")
 _OOXML = re.compile(r"_xmlsignatures/[^/]+\.xml\Z", re.I)
 _ODF = "META-INF/documentsignatures.xml"
+_PACKAGE_SIGNATURE = ".signature.p7s"  # of a NuGet package
+_OF_PACKAGE = "readers differ on what .signature.p7s covers: it holds a digest of the package, which is not compared"
 NO_NAME = "(no name)"
 _UTF_8 = 0x800  # of the flags of a member: its name is in UTF-8
 _OCTETS_OF_AN_ENTRY = 46  # without its name and what follows it
@@ -325,7 +327,7 @@ def _in_other(whole: _Zip, name: str, info: zipfile.ZipInfo, search: Search) -> 
             if it.wants:
                 it = it.with_content(_content_for(whole, plain(it.wants)))
             if it.what is Class.MESSAGE:
-                it = it.noted(whole.reason(name))
+                it = it.noted(whole.reason(name), _OF_PACKAGE if name == _PACKAGE_SIGNATURE else "")
             if is_said or it.what not in (Class.TEXT, Class.NO_CANDIDATE):
                 yield it.within(name)
 
