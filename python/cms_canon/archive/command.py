@@ -309,11 +309,12 @@ def load_command(url: str, wait: Optional[float]) -> None:
 
 @main.command("check")
 @click.option("--all", "all_of_them", is_flag=True, help="List the messages that fit and break no rule too.")
+@click.option("--noted", is_flag=True, help="List only the messages that fit with a note.")
 @_store
 @_wait
 @_json
 @_csv
-def check_command(all_of_them: bool, url: str, wait: Optional[float], form: Optional[str]) -> None:
+def check_command(all_of_them: bool, noted: bool, url: str, wait: Optional[float], form: Optional[str]) -> None:
     """List what is wrong with the messages, by file.
 
     The status is 1 if the digests of any message or of a token in it do not fit, or a signature is wrong.
@@ -322,7 +323,8 @@ def check_command(all_of_them: bool, url: str, wait: Optional[float], form: Opti
 
     def rows() -> Iterator[Dict[str, Any]]:
         nonlocal differs
-        for row in _with_name(queries.checked(Store(url, wait=wait), all_of_them)):
+        store = Store(url, wait=wait)
+        for row in _with_name(queries.noted(store) if noted else queries.checked(store, all_of_them)):
             differs = differs or row["state"] == DigestState.DIFFERS.value or row["verdict"] == "wrong" or row["wrong_times"] > 0
             yield row
 

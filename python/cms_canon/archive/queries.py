@@ -70,6 +70,14 @@ def checked(store: Store, all_of_them: bool) -> Iterator[Row]:
     return store.asked(sa.select(FILES, wrong.label("wrong_times")).where(asked).order_by(FILES.c.path, FILES.c.member))
 
 
+IS_NOTED = (FILES.c.what == Class.MESSAGE.value) & (FILES.c.state == State.FITS.value) & (sa.func.coalesce(FILES.c.note, "") != "")
+
+
+def noted(store: Store) -> Iterator[Row]:
+    """Gives the messages that fit, and of which something else is to be said; `wrong_times` is 0, since none of them is asked for its tokens."""
+    return store.asked(sa.select(FILES, sa.literal(0).label("wrong_times")).where(IS_NOTED).order_by(FILES.c.path, FILES.c.member))
+
+
 def _joined(table: sa.Table, *conditions: Any) -> Any:
     return sa.select(table).where(*conditions).order_by(table.c.path, table.c.member, table.c.number)
 
