@@ -43,6 +43,7 @@ from archive_containers import DOCUMENT, FITS, Maker, made_jar, manifest, said_o
 
 CONTAINERS = 1500  # of each kind
 SEED = 7310
+MOST_BY_JARSIGNER = 40  # JARs, for each of which it takes a second
 OTHER = b"Not the document that was signed."
 JAVA = TOP / "tests" / "data" / "ArchiveReaders.java"
 
@@ -153,6 +154,17 @@ def by_java(readers: str) -> Read:
         return shown
 
     return read
+
+
+def by_jarsigner(folder: Path, paths: List[Path]) -> Dict[str, Shown]:
+    """Shows something of a JAR that jarsigner does not verify as a whole; it is begun for each of the first ones."""
+    return {path.name: {} if is_verified(path) else {"what jarsigner refuses": {digest(b"")}} for path in paths[:MOST_BY_JARSIGNER]}
+
+
+def is_verified(path: Path) -> bool:
+    words = ["jarsigner", "-J-Duser.language=en", "-verify", str(path)]
+    said = subprocess.run(words, capture_output=True, text=True, timeout=SECONDS).stdout
+    return "jar verified" in said and "unsigned entries" not in said
 
 
 # ---- zips, written header by header
@@ -628,10 +640,13 @@ class Trick(NamedTuple):
     words: str = ""
 
 
-def with_manifest(make: Maker, files: Dict[str, bytes], more: str = "", main: bytes = b"", version: str = "1.0", name: bytes = b"") -> Dict[str, bytes]:
-    """Returns the members of a JAR whose signature file says more, or whose manifest does, or says a name in another place of a section."""
-    listed = b"Manifest-Version: 1.0\r\n" + main + b"\r\n" + b"".join(name + section(it, octets) for it, octets in files.items())
+def with_manifest(make: Maker, files: Dict[str, bytes], more: str = "", main: bytes = b"", version: str = "1.0", name: bytes = b"",
+                  is_named: bool = True) -> Dict[str, bytes]:
+    """Returns the members of a JAR whose signature file says more, or names no file, or whose manifest says more, or a name in another place."""
+    sections = {it: name + section(it, octets) for it, octets in files.items()}
+    listed = b"Manifest-Version: 1.0\r\n" + main + b"\r\n" + b"".join(sections.values())
     signature = f"Signature-Version: {version}\r\nSHA-256-Digest-Manifest: {base64.b64encode(digest(listed)).decode()}\r\n{more}\r\n".encode()
+    signature += b"".join(section(it, octets) for it, octets in sections.items() if is_named)
     return {"META-INF/MANIFEST.MF": listed, "META-INF/A.SF": signature, "META-INF/A.RSA": make.cms(signature), **files}
 
 
@@ -640,6 +655,12 @@ def apk_block(*schemes: int) -> bytes:
     parts = b"".join(struct.pack("<QL", 8, it) + b"part" for it in schemes)
     size = struct.pack("<Q", len(parts) + 24)
     return size + parts + size + b"APK Sig Block 42"
+
+
+def shorter(method: int) -> Member:
+    """Returns a member with fewer octets than both headers say."""
+    octets = {"unpacked": len(DOCUMENT) + 83}
+    return Member(b"doc", DOCUMENT, method=method, local=octets, listed=dict(octets))
 
 
 def zip_of(files: Dict[str, bytes]) -> bytes:
@@ -654,6 +675,8 @@ def zip_tricks(make: Maker) -> Dict[str, Trick]:
     within, longer = Member(b"doc", DOCUMENT), Member(b"doc", DOCUMENT)
     hidden_in(within, b"doc")
     _longer(Zip([longer]), b"doc", Random(0))
+    with_tail = Member(b"doc", DOCUMENT)
+    with_tail.packed = with_tail.packed_octets() + b"tail"
     unended = Member(b"doc", DOCUMENT)
     unended.packed = bytes([unended.packed_octets()[0] ^ 1]) + unended.packed_octets()[1:]  # its last block is not marked as that
     members = [Member(name.encode(), octets) for name, octets in with_manifest(make, {"doc": DOCUMENT, "A.class": b"class"}).items()]
@@ -668,7 +691,7 @@ def zip_tricks(make: Maker) -> Dict[str, Trick]:
         "64.zip": Trick(in_64({"doc": DOCUMENT, "doc.p7s": der}), "doc.p7s", FITS),
         "two lists.zip": Trick(Zip([other, signature], other_list=[doc, signature]).written(), "doc.p7s", unclear, differ),
         "hidden.zip": Trick(Zip([replace(other, is_listed=False), *plain]).written(), "doc.p7s", unclear, differ),
-        "hidden within.zip": Trick(Zip([within, signature]).written(), "doc.p7s", unclear, differ),
+        "hidden within.zip": Trick(Zip([within, signature]).written(), "doc.p7s", "damaged", "not as many octets"),
         "hidden last.zip": Trick(Zip(plain, gap=other.written()).written(), "doc.p7s", unclear, differ),
         "longer.zip": Trick(Zip([longer, signature]).written(), "doc.p7s", "damaged", "CRC"),
         "other name.zip": Trick(Zip([replace(other, local={"extra": unicode_path(b"doc")}), *plain]).written(), "doc.p7s", unclear, differ),
@@ -689,6 +712,12 @@ def zip_tricks(make: Maker) -> Dict[str, Trick]:
         "version of it.zip": Trick(Zip([Member(b"doc;12", DOCUMENT), Member(b"doc;12.p7s", der)]).written(), "doc;12.p7s", FITS, "readers differ on doc;12"),
         "control character.zip": Trick(Zip([*plain, Member(b"do\7c", OTHER)]).written(), "doc.p7s", unclear, "two members have one name"),
         "control character in it.zip": Trick(Zip([Member(b"do\7c", DOCUMENT), Member(b"do\7c.p7s", der)]).written(), "do\7c.p7s", FITS, "another path"),
+        "stored more.zip": Trick(Zip([shorter(zipfile.ZIP_STORED), signature]).written(), "doc.p7s", "damaged", "not as many octets"),
+        "deflated more.zip": Trick(Zip([shorter(zipfile.ZIP_DEFLATED), signature]).written(), "doc.p7s", "damaged", "not as many octets"),
+        "deflated tail.zip": Trick(Zip([with_tail, signature]).written(), "doc.p7s", "damaged", "not as many octets"),
+        "no width.zip": Trick(Zip([*plain, Member("do\u200cc".encode(), OTHER)]).written(), "doc.p7s", FITS, "on some file systems"),
+        "stream.zip": Trick(Zip([*plain, Member(b"doc::$DATA", OTHER)]).written(), "doc.p7s", FITS, ""),
+        "stream of it.zip": Trick(Zip([Member(b"a:b", DOCUMENT), Member(b"a:b.p7s", der)]).written(), "a:b.p7s", FITS, "readers differ on a:b"),
         "other flags.zip": Trick(Zip([replace(doc, local={"flags": 0x1800}), signature]).written(), "doc.p7s", unclear, "two headers"),
         "nuget.zip": Trick(zip_of({"a.nuspec": b"<a/>", ".signature.p7s": make.cms(b"Version:1\n\n2.16.840.1.101.3.4.2.1-Hash:YQ==\n", "-nodetach")}),
                            ".signature.p7s", FITS, "readers differ on what .signature.p7s covers"),
@@ -702,6 +731,7 @@ def zip_tricks(make: Maker) -> Dict[str, Trick]:
         "of some signature.jar": Trick(Zip([*members, Member(b"META-INF/SIG-A.abc", OTHER)]).written(), block, FITS),
         "no version.jar": Trick(zip_of(with_manifest(make, {"doc": DOCUMENT}, version="2")), block, FITS, "readers differ on a signature file"),
         "name later.jar": Trick(zip_of(with_manifest(make, {"doc": DOCUMENT}, name=b"A: b\r\n")), block, FITS, "readers differ on a manifest with a section"),
+        "no names.jar": Trick(zip_of(with_manifest(make, {"doc": DOCUMENT}, is_named=False)), block, FITS, "readers differ on files that the signature file"),
         "versions.jar": Trick(zip_of(with_manifest(make, {"doc": DOCUMENT, "META-INF/versions/9/doc": OTHER}, main=b"Multi-Release: true\r\n")), block, FITS,
                               "readers differ on members for which"),
         "no versions.jar": Trick(zip_of(with_manifest(make, {"doc": DOCUMENT}, main=b"Multi-Release: true\r\n")), block, FITS),
@@ -906,9 +936,11 @@ def judge_copy(home: Path) -> None:
     tricks = {**zip_tricks(make), **tar_tricks(make), **asic_tricks(make), **packed_tricks(make)}
     judge_tricks(archive, home / "by hand", tricks)
     judge_check(home, home / "listed" / "by hand", tricks)
+    of_jars = {**of_zips, **({"jarsigner": by_jarsigner} if tally.has("jarsigner") else {})}
     for some, readers in ((zip_kinds(make), of_zips), (tar_kinds(make), tar_readers())):
         for name, it in some.items():
-            judge_kind(archive, home / f"random {name}", name, Kind(name.rpartition(".")[2], it, readers), random, number // len(some))
+            kind = Kind(name.rpartition(".")[2], it, of_jars if name == "jar" else readers)
+            judge_kind(archive, home / f"random {name}", name, kind, random, number // len(some))
 
 
 if __name__ == "__main__":

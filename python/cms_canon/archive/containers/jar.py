@@ -10,7 +10,7 @@ from functools import cached_property
 from typing import AbstractSet, Dict, FrozenSet, Iterable, Iterator, List, NamedTuple, Optional, Set, Tuple
 
 from .found import Class, Content, Found, Pieces, State
-from .manifests import Compared, Digest, Listed, algorithm_of, at_best, compared, weak_alone
+from .manifests import Compared, Digest, Listed, algorithm_of, at_best, compared, some_of, weak_alone
 from .sources import Budget, TooLarge
 
 FORM = "JAR"
@@ -174,6 +174,8 @@ class _Cover(NamedTuple):
 
     came: Compared
     names: Optional[FrozenSet[Optional[str]]] = None
+    named: FrozenSet[Optional[str]] = frozenset()
+    """The names that the signature file has, if it is for all sections: Java takes other files for unsigned."""
 
 
 def _fits(octets: Optional[bytes], digests: _Digests) -> Optional[bool]:
@@ -190,7 +192,7 @@ def _cover_of(signature: Iterator[_Section], manifest: Manifest) -> _Cover:
     wholes, main = (first.digests(what) if first else () for what in (_WHOLE, _MAIN))
     known = [(algorithm, digest) for algorithm, digest in wholes if algorithm]
     if known and all(manifest.digest(algorithm) == digest for algorithm, digest in known):
-        return _Cover(_noted(State.FITS, "", [wholes]))
+        return _Cover(_noted(State.FITS, "", [wholes]), named=frozenset(it.name for it in signature))
     some = [(it.name, it.digests("")) for it in signature]
     came = [_fits(manifest.by_name.get(name), digests) for name, digests in some]
     fits_main = _fits(manifest.main, main) if main else None
@@ -218,6 +220,8 @@ def compared_with_files(signature_file: bytes, manifest: Optional[Manifest], due
         return cover.came
     listed = manifest.listed if cover.names is None else [it for it in manifest.listed if it.name in cover.names]
     came = at_best(compared(listed, due, digest), *cover.came)
+    if cover.names is None and (unnamed := some_of(it.name for it in listed if it.name not in cover.named)):
+        came = at_best(came, State.FITS, f"readers differ on files that the signature file does not name: {unnamed}")
     came = came if is_of_version_1(signature_file, manifest.limits) else at_best(came, State.FITS, _NO_VERSION)
     return at_best(came, State.FITS, "; ".join(manifest.reasons(due)))
 

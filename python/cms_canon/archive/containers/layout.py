@@ -38,7 +38,7 @@ _NUMBERS, _UNICODE_PATH, _OF_LIBARCHIVE = 1, 0x7075, 0x6C78  # extra fields; bsd
 _APK_MAGIC = b"APK Sig Block 42"
 _APK_SCHEMES = {0x7109871A: 2, 0xF05368C0: 3, 0x1B93AD61: 3}  # by the numbers of their parts of the block
 _DOS_FOLDER = 0x10
-_ODD_IN_NAME = re.compile(r"[^ -\x5b\x5d-~]|;[0-9]*\Z|\.\.|//|\A/|(?:\A|/)\.(?:/|\Z)")  # that is not one path of one spelling for all readers
+_ODD_IN_NAME = re.compile(r"[^ -9;-\x5b\x5d-~]|;[0-9]*\Z|\.\.|//|\A/|(?:\A|/)\.(?:/|\Z)")  # that is not one path of one spelling for all readers
 
 
 # ---- the end of the file
@@ -286,7 +286,7 @@ def _odd_name(info: zipfile.ZipInfo) -> str:
     if len(_spellings(info)) > 1 or "\0" in info.orig_filename:
         return "its name has other characters for some readers"
     path = name[:-1] if name.endswith("/") else name
-    is_one = paths_in_zip(name) == {path} and "\\" not in name
+    is_one = paths_in_zip(name) == {path} and "\\" not in name and ":" not in name
     return "" if is_one else "some readers have another path for it"
 
 

@@ -8,6 +8,7 @@ from typing import List, Set
 
 READERS_DIFFER = "readers differ on "  # how a note begins that says so of a member or of the whole container
 _ENDS = (".", " ")
+_WITHOUT_WIDTH = dict.fromkeys((*range(0x200C, 0x2010), *range(0x202A, 0x202F), *range(0x206A, 0x2070), 0xFEFF))  # which HFS+ leaves out
 _STEP = re.compile(r"[/\\]")
 _VERSION = re.compile(r";[0-9]*\Z")
 _OF_UNZIP = {".": "_", "..": "__"}
@@ -47,10 +48,11 @@ def differing(name: str, reason: str) -> str:
 
 
 def folded(path: str) -> str:
-    """Returns what a path has in common with those that lead to the same file where capitals, forms of characters, and dots and blanks at the end of
-    a name do not count."""
+    """Returns what a path has in common with those that lead to the same file if capitals, forms of characters, characters without width, and dots and
+    blanks at the end of a name do not count."""
     if path.endswith(_ENDS) or "./" in path or " /" in path:
         path = "/".join(step.rstrip(". ") for step in path.split("/"))
+    path = path.translate(_WITHOUT_WIDTH)
     if path.isascii():
         return path if (lower := path.lower()) == path else lower
     return unicodedata.normalize("NFC", unicodedata.normalize("NFC", path).casefold())

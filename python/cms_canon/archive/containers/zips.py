@@ -61,16 +61,26 @@ def _refuse_many(file: BinaryIO, end: End, source: Source) -> None:
 
 
 class _Unpacked(io.RawIOBase):
-    """A member as it is unpacked. zipfile takes the end of the packed octets for the end of the member; other readers want the mark of its end."""
+    """A member as it is unpacked. zipfile takes the end of the packed octets for the end of the member; other readers want the mark of its end, as many
+    octets as the headers say, and nothing after them. Raises `Damaged` if it is not so."""
 
-    def __init__(self, member: IO[bytes]) -> None:
+    def __init__(self, member: IO[bytes], octets: int) -> None:
         self._member = member
+        self._left = octets
 
     def read(self, size: int = -1) -> bytes:
         octets = self._member.read(size)
-        if not octets and size and not getattr(getattr(self._member, "_decompressor", None), "eof", True):
-            raise Damaged("its packed octets have no end")
+        self._left -= len(octets)
+        if not octets and size:
+            self._end()
         return octets
+
+    def _end(self) -> None:
+        unpacker = getattr(self._member, "_decompressor", None)
+        if not getattr(unpacker, "eof", True):
+            raise Damaged("its packed octets have no end")
+        if self._left or getattr(unpacker, "unused_data", b"") or getattr(self._member, "_compress_left", 0):
+            raise Damaged("it has not as many octets as its headers say")
 
     def close(self) -> None:
         self._member.close()
@@ -150,7 +160,7 @@ class _Zip:
         chance to see one octet more, of which the check sum then is another."""
         info.file_size += 1
         try:
-            return _Unpacked(self.file.open(info))
+            return _Unpacked(self.file.open(info), info.file_size - 1)
         finally:
             info.file_size -= 1
 
