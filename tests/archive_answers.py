@@ -258,7 +258,8 @@ def judge_signed_content(home, archive, make):
 def judge_release(home, archive, make):
     """Files are read again only if their rows would be others: not for a release alone. A release with the same number stores the same rows."""
     members = {"doc": DOCUMENT, "doc.p7s": make.cms(DOCUMENT), "one.pdf": signed_pdf(make), "a.zip": zipped({"doc.p7s": make.cms(DOCUMENT), "doc": DOCUMENT}),
-               "mail.eml": make.mail(), "doc.tst": make.token(DOCUMENT), "md5.jar": made_jar(make, {"doc": DOCUMENT}, "MD5", "md5"), "cut.p7s": b"0\x82"}
+               "mail.eml": make.mail(), "doc.tst": make.token(DOCUMENT), "md5.jar": made_jar(make, {"doc": DOCUMENT}, "MD5", "md5"), "cut.p7s": b"0\x82",
+               "version.zip": zipped({"doc": DOCUMENT, "doc.p7s": make.cms(DOCUMENT), "doc;1": b"other"})}
     folder = write_files(home / "released", members)
     time.sleep(SETTLED)
     command(home, "index", folder, "--store", "release.db")

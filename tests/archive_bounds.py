@@ -4,30 +4,37 @@
     /usr/bin/python3 tests/archive_bounds.py [SECONDS [SEED]]
 
 Each container is read by a process of its own, which may take 64 MB more than without it and twice the largest piece that it reads, and 2 s for each
-10 MB that it reads, unpacked; what is too large is said so with a figure. A generator looks for so many seconds (20 if no number is named) for
+10 MB that it reads, unpacked, and 0.3 ms for each message; what is too large is said so with a figure. A generator looks for so many seconds (20 if no number is named) for
 manifests that are worse, by putting together parts of them at random.
 """
 
+import base64
+import io
 import json
-import resource
 import subprocess
 import sys
 import time
+import zipfile
+import zlib
 from pathlib import Path
 from random import Random
-from typing import Dict, List, NamedTuple
+from typing import Dict, List, NamedTuple, Tuple
 
 from archive import count_if, judged_in_a_copy, tally, write_files, zipped
 from archive_containers import Maker
+from archive_documents_read import PLAIN, laid_out
 
 SEARCHING = 20  # seconds
 SEED = 4711
 MEMORY = 64 << 20
 SLOWEST = 2 / 10e6  # seconds an octet
+OF_A_MESSAGE = 0.3e-3  # seconds
 LEAST = 2  # seconds that any container may take
 MANIFEST = "META-INF/MANIFEST.MF"
 READING = """
-import json, re, sys, time
+import importlib, importlib.util, json, re, sys, time
+if importlib.util.find_spec("pikepdf"):  # which takes memory once
+    importlib.import_module("pikepdf")
 from cms_canon.archive import judging
 from cms_canon.archive.containers import files
 peak = lambda: int(re.search(r"VmHWM:\s*(\d+)", open("/proc/self/status").read())[1]) << 10
@@ -35,10 +42,12 @@ budgets, make = [], files.Budget
 files.Budget = lambda size: budgets.append(make(size)) or budgets[-1]
 for path in sys.argv[1:]:
     before, begin = peak(), time.process_time()
-    facts = [judging.judged(it) for it in files.found_in_path(path)]
+    rows, messages = [], 0
+    for it in map(judging.judged, files.found_in_path(path)):
+        rows += [(it.what.value, it.note)] if it.what.value == "too large" and len(rows) < 2 else []
+        messages += it.what.value == "message"
     octets = budgets[-1]._most - budgets[-1]._octets
-    rows = [(it.what.value, it.note) for it in facts if it.what.value == "too large"]
-    print(json.dumps([peak() - before, time.process_time() - begin, octets, rows[:2]]))
+    print(json.dumps([peak() - before, time.process_time() - begin, octets, messages, rows]))
 """
 
 
@@ -62,6 +71,37 @@ def asice(make: Maker, manifest: bytes, is_too_large: bool = True) -> Evil:
     return Evil(zipped(files), len(manifest), is_too_large)
 
 
+def zip_of(make: Maker, members: int, name: str, content: bytes, messages: int = 1, is_too_large: bool = False) -> Evil:
+    """Returns a zip of members with numbers in their names, the first of which have a signature beside them."""
+    octets, message = io.BytesIO(), make.cms(content)
+    with zipfile.ZipFile(octets, "w") as file:
+        for number in range(members):
+            file.writestr(zipfile.ZipInfo(name % number), content)
+            if number < messages:
+                file.writestr(zipfile.ZipInfo(f"{name % number}.p7s"), message)
+        directory = sum(46 + len(it.filename) for it in file.infolist())
+    return Evil(octets.getvalue(), directory, is_too_large)
+
+
+def pdf(others: Tuple[Tuple[int, bytes], ...], extra: bytes = b"") -> Evil:
+    octets = laid_out(PLAIN._replace(others=others, extra=extra))
+    return Evil(octets, len(octets), is_too_large=False)
+
+
+def in_stream(data: bytes, words: bytes) -> bytes:
+    packed = zlib.compress(data, 9)
+    return b"<< %s /Filter /FlateDecode /Length %d >>\nstream\n%s\nendstream" % (words, len(packed), packed)
+
+
+def signed_mail(make: Maker, text: bytes) -> Evil:
+    """Returns a mail that is signed as it would be with CRLF at the ends of lines."""
+    part = b"Content-Type: text/plain\n\n" + text
+    head = b'From: a\nContent-Type: multipart/signed; boundary="b"; protocol="application/pkcs7-signature"\n\n--b\n'
+    tail = b"\n--b\nContent-Type: application/pkcs7-signature\nContent-Transfer-Encoding: base64\n\n%s\n--b--\n"
+    mail = head + part + tail % base64.encodebytes(make.cms(part.replace(b"\n", b"\r\n")))
+    return Evil(mail, len(mail), is_too_large=False)
+
+
 def evils(make: Maker) -> Dict[str, Evil]:
     plain, listed = b"Manifest-Version: 1.0\r\n\r\n", b"Name: a\nSHA-256-Digest: YQ==\n\n"
     return {
@@ -70,8 +110,25 @@ def evils(make: Maker) -> Dict[str, Evil]:
         "forty files.jar": jar(make, plain, *[b"a\n\n" * 350_000] * 40),
         "forty long files.jar": jar(make, plain, *[b"a: b\n" * 350_000] * 40),
         "names.jar": jar(make, listed * 300_000, plain + listed * 300_000),
+        "empty lines.jar": jar(make, plain, *[b"\n" * 2_000_000] * 2),
+        "two long files.jar": jar(make, b"A: b\n" + b" c\n" * 12_000_000, b"A: b\n" + b" c\n" * 12_000_000),
         "folded.jar": jar(make, plain, b"a: b\n" + b" c\n" * 1_000_000),
         "listed.asice": asice(make, b"<a>" + b'<DataObjectReference URI="a"></DataObjectReference>' * 1_000_000 + b"</a>"),
+        "members.zip": zip_of(make, 29_990, "a%d", b"x"),
+        "small members.zip": zip_of(make, 31_000, "a%d", b"x", is_too_large=True),
+        "more members.zip": zip_of(make, 200_000, "a%d", b"", is_too_large=True),
+        "most members.zip": zip_of(make, 79_990, "a%d", b"x" * 430),
+        "names with several paths.zip": zip_of(make, 79_990, "../\xe4/../a%d", b"x" * 430),
+        "names in capitals.zip": zip_of(make, 79_990, "A/B/C/D/E/F/G/H/I/J/K/L/M/N/O/A%d", b"x" * 400),
+        "messages.zip": zip_of(make, 20_000, "a%d", b"x", messages=20_000),
+        "quoted.mbox": Evil(b"From a\nFrom: a\n\n" + b">From \n" * 4_000_000, 28_000_000, is_too_large=False),
+        "short lines.eml": signed_mail(make, b"a\n" * 5_000_000),
+        "fields.pdf": pdf(((1, b"<< /Type /Catalog /Pages 2 0 R /AcroForm << /Fields [%s] >> >>" % (b"null " * 2_000_000)),)),
+        "object streams.pdf": pdf(tuple((number, in_stream(b" " * 1000, b"/Type /ObjStm /N 0 /First 0")) for number in range(200, 5000))),
+        "large object stream.pdf": pdf(((200, in_stream(bytes(600 << 20), b"/Type /ObjStm /N 0 /First 0")),)),
+        "names of streams.pdf": pdf(((200, b"[%s]" % (b"/ObjStm /EF" * 500_000)),)),
+        "files.pdf": pdf(tuple((number, b"<< /EF << /F 3 0 R >> >>") for number in range(200, 19_000))),
+        "numbers.pdf": pdf((), extra=b"%" + b"1 0 " * 2_000_000 + b"\n" + b"%" + b"0" * 2_000_000 + b"\n"),
         "deep.asice": asice(make, b"<a>" * 1_000_000),
         "attributes.asice": asice(make, b"<a " + b"".join(b'a%d="" ' % it for it in range(1_000_000)) + b"/>", is_too_large=False),
         "text.asice": asice(make, b"<DigestValue>" + b"\n&#65;" * 2_000_000 + b"</DigestValue>", is_too_large=False),
@@ -79,7 +136,7 @@ def evils(make: Maker) -> Dict[str, Evil]:
 
 
 def costs(home: Path, paths: List[Path]) -> List[list]:
-    """Returns what each container costs: octets of memory, seconds, octets read, and what is said to be too large."""
+    """Returns what each container costs: octets of memory, seconds, octets read, messages, and what is said to be too large."""
     lines = []
     for path in paths:
         ran = subprocess.run([sys.executable, "-c", READING, path], cwd=home, capture_output=True, text=True, timeout=600)
@@ -89,11 +146,16 @@ def costs(home: Path, paths: List[Path]) -> List[list]:
     return lines
 
 
+def most_seconds(octets: int, messages: int) -> float:
+    """Returns how long it may take to read so many octets with so many messages."""
+    return max(LEAST, SLOWEST * octets + OF_A_MESSAGE * messages)
+
+
 def judge_evil(home: Path, folder: Path, make: Maker) -> None:
     some = evils(make)
     write_files(folder, {name: it.octets for name, it in some.items()})
-    for (name, it), (memory, seconds, octets, rows) in zip(some.items(), costs(home, [folder / name for name in some])):
-        is_bound = memory <= MEMORY + 2 * it.largest and seconds <= max(LEAST, SLOWEST * octets)
+    for (name, it), (memory, seconds, octets, messages, rows) in zip(some.items(), costs(home, [folder / name for name in some])):
+        is_bound = memory <= MEMORY + 2 * it.largest and seconds <= most_seconds(octets, messages)
         is_said = not it.is_too_large or any("more than" in note for _, note in rows)
         came = f"{memory >> 20} MB, {seconds:.1f} s, {octets:,} octets, {rows}"
         count_if(f"the bounds for {name}", is_bound and is_said, came)
@@ -122,8 +184,8 @@ def judge_search(home: Path, folder: Path, make: Maker, random: Random, seconds:
         it, number = at_random(make, random), number + 1
         path = write_files(folder, {"evil.asice" if b"ASiCManifest" in it.octets else "evil.jar": it.octets}) / "evil.jar"
         path = path if b"ASiCManifest" not in it.octets else folder / "evil.asice"
-        ((memory, took, octets, rows),) = costs(home, [path])
-        if memory > MEMORY + 2 * it.largest or took > max(LEAST, SLOWEST * octets):
+        ((memory, took, octets, messages, rows),) = costs(home, [path])
+        if memory > MEMORY + 2 * it.largest or took > most_seconds(octets, messages):
             wrong.append(f"{number}: {memory >> 20} MB, {took:.1f} s, {octets:,} octets, {rows}")
     count_if(f"the bounds for {number} containers at random", number and not wrong, wrong[:3])
 

@@ -480,9 +480,11 @@ def section(name: str, octets: bytes, algorithm="SHA-256", hashed="sha256") -> b
 
 def made_jar(make, files: Dict[str, bytes], algorithm="SHA-256", hashed="sha256") -> bytes:
     """Returns a JAR that is signed by no tool, so that its digests may be of any algorithm."""
-    listed = b"Manifest-Version: 1.0\r\n\r\n" + b"".join(section(name, octets, algorithm, hashed) for name, octets in files.items())
+    sections = {name: section(name, octets, algorithm, hashed) for name, octets in files.items()}
+    listed = b"Manifest-Version: 1.0\r\n\r\n" + b"".join(sections.values())
     digest = base64.b64encode(hashlib.new(hashed, listed).digest()).decode()
     signature = f"Signature-Version: 1.0\r\n{algorithm}-Digest-Manifest: {digest}\r\n\r\n".encode()
+    signature += b"".join(section(name, octets, algorithm, hashed) for name, octets in sections.items())
     return zipped({"META-INF/MANIFEST.MF": listed, "META-INF/A.SF": signature, "META-INF/A.RSA": make.cms(signature), **files})
 
 

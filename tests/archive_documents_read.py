@@ -11,8 +11,10 @@ import base64
 import email
 import hashlib
 import re
+import struct
 import subprocess
 import sys
+import zlib
 from email.policy import compat32, default
 from pathlib import Path
 from random import Random
@@ -46,6 +48,11 @@ class Odd(NamedTuple):
     """Whether a ByteRange counts from the beginning of the file, and not of the PDF."""
     after: bytes = b""
     digits: int = HOLE
+    type: bytes = b"/Sig"
+    extra: bytes = b""
+    """What else lies before the table of objects."""
+    swap: Tuple[bytes, bytes] = (b"", b"")
+    """What is replaced after that table, and by what."""
 
 
 PLAIN = Odd()
@@ -88,6 +95,18 @@ ODDITIES: Dict[str, Odd] = {
     "counted octets before": Odd(before=b"\n\n", counts_before=True),
     "octets after": Odd(after=b"\n5 0 obj\n<< >>\nendobj\n"),
     "blanks after": Odd(after=b"\r\n\0"),
+    "a comment before the last number": Odd(swap=(b"startxref\n", b"startxref %a\n")),
+    "a sign before the last number": Odd(swap=(b"startxref\n", b"startxref\n+")),
+    "startxref in a comment": Odd(swap=(b"%%EOF\n", b"%%EOF\n%startxref(7)\n")),
+    "startxref far from the end": Odd(swap=(b"%%EOF\n", b"%%EOF\n%" + b"x" * 1000 + b"\n")),
+    "a generation": Odd(extra=b"7 1 obj\n<< >>\nendobj\n"),
+    "a generation after a comment": Odd(extra=b"7 %c\n1 %c\nobj\n<< >>\nendobj\n"),
+    "a hybrid file": Odd(swap=(b"/Root 1 0 R", b"/Root 1 0 R /XRef#53tm 9")),
+    "permissions alone": Odd(others=((1, b"<< /Type /Catalog /Pages 2 0 R /Perms << /DocMDP 10 0 R >> >>"),)),
+    "permissions of a field": Odd(others=((1, b"<< /Type /Catalog /Pages 2 0 R /Perms << /DocMDP 10 0 R >> /AcroForm << /Fields [100 0 R] /SigFlags 3 >> >>"),)),
+    "a kid that is another field": Odd(others=((101, b"<< /Parent 100 0 R /T (k) /FT /Tx /V (x) >>"),), field=b" /FT /Sig /Kids [101 0 R]"),
+    "a kid that is a widget": Odd(others=((101, b"<< /Parent 100 0 R /Type /Annot /Subtype /Widget /Rect [0 0 0 0] >>"),), field=b" /FT /Sig /Kids [101 0 R]"),
+    "another type": Odd(type=b"/Foo"),
 }
 
 
@@ -95,7 +114,7 @@ def objects_of(odd: Odd) -> Dict[int, bytes]:
     return {
         1: b"<< /Type /Catalog /Pages 2 0 R /AcroForm << /Fields [%s] /SigFlags 3 >> >>" % odd.fields,
         2: b"<< /Type /Pages /Kids [3 0 R] /Count 1 >>", 3: b"<< /Type /Page /Parent 2 0 R /MediaBox [0 0 200 200] >>",
-        10: b"<< /Type /Sig /Filter /Adobe.PPKLite %s %%RANGE%% %s%s >>" % (odd.kind, odd.contents, odd.more),
+        10: b"<< /Type %s /Filter /Adobe.PPKLite %s %%RANGE%% %s%s >>" % (odd.type, odd.kind, odd.contents, odd.more),
         100: b"<< /T (S) /V %s%s /Type /Annot /Subtype /Widget /Rect [0 0 0 0] >>" % (odd.value, odd.field),
         **dict(odd.others),
     }
@@ -108,10 +127,11 @@ def laid_out(odd: Odd) -> bytes:
         places[number] = len(octets)
         body = body.replace(b"%RANGES%", b"%RANGES%".ljust(ROOM)).replace(b"%RANGE%", b"%RANGE%".ljust(ROOM))
         octets += b"%d 0 obj\n%s\nendobj\n" % (number, body.replace(b"%HOLE%", b"<" + b"0" * odd.digits + b">"))
+    octets += odd.extra
     table = len(octets)
     octets += b"xref\n0 1\n0000000000 65535 f \n" + b"".join(b"%d 1\n%010d 00000 n \n" % it for it in sorted(places.items()))
-    octets += b"trailer\n<< /Size 200 /Root 1 0 R >>\nstartxref\n%d\n%%%%EOF\n" % table
-    return bytes(octets)
+    end = b"trailer\n<< /Size 200 /Root 1 0 R >>\nstartxref\n%d\n%%%%EOF\n" % table
+    return bytes(octets) + (end.replace(*odd.swap) if odd.swap[0] else end)
 
 
 def signed(odd: Odd, sign: Callable[[bytes], bytes]) -> bytes:
@@ -183,6 +203,11 @@ PDFS_SAID: Dict[str, Tuple[str, str]] = {  # the state or the class, and the not
     "a field without its parent": (FITS, "does not say that it is one"), "a field of another kind": (FITS, "does not say that it is one"),
     "a value that is direct": (FITS, "no object of its own"), "no SubFilter": (FITS, "without a SubFilter that they know"),
     "a comment before Contents": (FITS, ""), "two fields of one signature": (FITS, ""), "another SubFilter": (FITS, ""),
+    "a comment before the last number": (FITS, "how the PDF ends"), "a sign before the last number": (FITS, "how the PDF ends"),
+    "startxref in a comment": (FITS, "how the PDF ends"), "startxref far from the end": (FITS, "how the PDF ends"),
+    "a generation": (FITS, "generation"), "a generation after a comment": (FITS, "generation"), "a hybrid file": (FITS, "two tables"),
+    "permissions alone": (FITS, "no field of the form"), "permissions of a field": (FITS, ""),
+    "a kid that is another field": (FITS, "below it"), "a kid that is a widget": (FITS, "below it"), "another type": (FITS, "of another type"),
     "octets after": ("fits an earlier revision", "octets follow"), "six numbers": ("damaged", "has 6 numbers"),
 }
 
@@ -194,6 +219,71 @@ def judge_odd_pdfs(archive, folder: Path, make) -> None:
         where = next(iter(came))
         is_so = came[where] == state and (note in facts[where].note if note else not facts[where].note)
         count_if(f"PDF with {name}", is_so, came, facts[where].note)
+
+
+def in_an_object_stream(catalogs: List[bytes], sign: Callable[[bytes], bytes]) -> bytes:
+    """Returns a signed PDF in which an object stream has these catalogs, all of one number."""
+    octets, places = bytearray(b"%PDF-1.7\n"), {}
+    head = b"".join(b"1 %d " % sum(len(it) + 1 for it in catalogs[:number]) for number in range(len(catalogs)))
+    data = head + b" ".join(catalogs)
+    stream = b"<< /Type /ObjStm /N %d /First %d /Length %d >>\nstream\n%s\nendstream" % (len(catalogs), len(head), len(data), data)
+    for number, body in sorted({**objects_of(PLAIN), 1: b"null", 40: stream}.items()):
+        places[number] = len(octets)
+        octets += b"%d 0 obj\n%s\nendobj\n" % (number, body.replace(b"%RANGE%", b" " * ROOM).replace(b"%HOLE%", b"<" + b"0" * HOLE + b">"))
+    places[150] = len(octets)
+    rows = b"".join(struct.pack(">BIH", 1, place, 0) if number != 1 else struct.pack(">BIH", 2, 40, 0) for number, place in sorted(places.items()))
+    index = b" ".join(b"%d 1" % it for it in sorted(places))
+    octets += b"150 0 obj\n<< /Type /XRef /Size 200 /Root 1 0 R /W [1 4 2] /Index [%s] /Length %d >>\nstream\n%s\nendstream\nendobj\n" % (
+        index, len(rows), rows)
+    octets += b"startxref\n%d\n%%%%EOF\n" % places[150]
+    begin = octets.index(b"<" + b"0" * HOLE + b">")
+    end = begin + HOLE + 2
+    octets = octets.replace(b" " * ROOM, (b"/ByteRange [0 %d %d %d]" % (begin, end, len(octets) - end)).ljust(ROOM))
+    value = sign(bytes(octets[:begin] + octets[end:])).hex().encode()
+    octets[begin + 1 : begin + 1 + len(value)] = value
+    return bytes(octets)
+
+
+def judge_object_streams(archive, folder: Path, make) -> None:
+    """A number that an object stream has twice is another object for some readers."""
+    real, other = objects_of(PLAIN)[1], b"<< /Type /Catalog /Pages 2 0 R >>"
+    for name, catalogs, words in (("once", [real], ""), ("twice", [other, real], "an object stream")):
+        _, facts = said_of(archive, write(folder, f"{name}.pdf", Case(in_an_object_stream(catalogs, make.cms), "")))
+        first = next(iter(facts.values()))
+        count_if(f"a catalog {name} in an object stream", first.state == FITS and (words in first.note if words else not first.note), first.note)
+
+
+ATTACHED_SAID = {  # the class of the attachment a.p7m, or the state of the message that it is
+    "plain": "fits", "predictor": "not looked into", "other file": "not looked into", "direct kids": "fits", "annotation": "fits", "page": "fits",
+    "direct annotation": "fits",
+}
+
+
+def with_attachment(make, name: str) -> bytes:
+    """Returns a PDF with a message attached in some way."""
+    message = make.cms(b"signed", "-nodetach")
+    more = {"predictor": b"/DecodeParms << /Predictor 2 >>", "other file": b"/F (other)"}.get(name, b"")
+    packed = zlib.compress(message)
+    stream = b"<< /Filter /FlateDecode %s /Length %d >>\nstream\n%s\nendstream" % (more, len(packed), packed)
+    named = b"<< /Names [(a) 31 0 R] >>"
+    annotation = b"<< /Type /Annot /Subtype /FileAttachment /Rect [0 0 9 9] /FS %s /P 3 0 R >>"
+    specification = b"<< /Type /Filespec /F (a.p7m) /UF (a.p7m) /EF << /F 30 0 R >> >>"
+    tree = {"direct kids": b"<< /Kids [<< /Names [(a) 31 0 R] >>] >>"}.get(name, named)
+    is_named = name in ("plain", "predictor", "other file", "direct kids")
+    page = {"annotation": b"/Annots [32 0 R]", "page": b"/AF [31 0 R]", "direct annotation": b"/Annots [%s]" % (annotation % specification)}.get(name, b"")
+    others = (
+        (1, b"<< /Type /Catalog /Pages 2 0 R %s >>" % (b"/Names << /EmbeddedFiles %s >>" % tree if is_named else b"")),
+        (3, b"<< /Type /Page /Parent 2 0 R /MediaBox [0 0 200 200] %s >>" % page),
+        (30, stream), *(((31, specification),) if name != "direct annotation" else ()), *(((32, annotation % b"31 0 R"),) if name == "annotation" else ()),
+    )
+    return laid_out(PLAIN._replace(others=others))
+
+
+def judge_attachments(archive, folder: Path, make) -> None:
+    """Whatever is attached is looked into, or named."""
+    for name, wanted in ATTACHED_SAID.items():
+        came, _ = said_of(archive, write(folder, f"attached, {name}.pdf", Case(with_attachment(make, name), "")))
+        count_same(f"an attachment: {name}", came.get("attachment a.p7m"), wanted)
 
 
 def judge_pdfs(archive, folder: Path, make, random: Random, number: int) -> None:
@@ -235,6 +325,11 @@ class Letter(NamedTuple):
     between: bytes = b"\r\n"
     coding: bytes = b"base64"
     value: Callable[[bytes], bytes] = lambda der: base64.encodebytes(der).replace(b"\n", b"\r\n")
+    end: bytes = b"--b--"
+    before: bytes = b""
+    """What lies before the first header."""
+    blank: bytes = b""
+    """What lies before the first header of the part that signs."""
 
 
 _DECOY = b"--c\r\n" + OTHER_PART + b"\r\n--c\r\nContent-Type: text/plain\r\n\r\n2\r\n--c--\r\n"
@@ -267,6 +362,18 @@ LETTERS: Dict[str, Letter] = {
     "another encoding": Letter(coding=b"base64 (really)"),
     "a preamble": Letter(decoy=b"A preamble.\r\n"),
     "a folded header": Letter(_KIND.replace(b"; ", b";\r\n\t")),
+    "a line that begins as a boundary": Letter(decoy=b"--bc\r\n" + OTHER_PART + b"\r\n"),
+    "a last boundary with more": Letter(decoy=b"--b--X\r\n"),
+    "a blank before the header of a part": Letter(blank=b"\t"),
+    "an encoded word": Letter(b'multipart/signed; boundary="=?us-ascii?Q?b?="', delimiter=b"--=?us-ascii?Q?b?=", end=b"--=?us-ascii?Q?b?=--"),
+    "a boundary in angles": Letter(b'multipart/signed; boundary="<b>"'),
+    "a boundary in apostrophes": Letter(b"multipart/signed; boundary=\"'b'\"", delimiter=b"--'b'", end=b"--'b'--"),
+    "a boundary that ends in a blank": Letter(b'multipart/signed; boundary="b "', delimiter=b"--b ", end=b"--b --"),
+    "an empty line before": Letter(before=b"\r\n"),
+    "a mark of UTF-8 before": Letter(before=b"\xef\xbb\xbf"),
+    "a form feed in the type": Letter(_KIND.replace(b"; ", b";\f ")),
+    "a control character": Letter(head=b"X-A: \1\r\n"),
+    "21 headers of the type": Letter(head=(b"Content-Type: " + _KIND + b"\r\n") * 20),
 }
 MAILS_SAID = {  # the state, and the note, of part 2; or why the mail is damaged
     "plain": (FITS, ""), "blanks after a boundary": (FITS, ""), "a preamble": (FITS, ""), "a folded header": (FITS, ""),
@@ -279,17 +386,24 @@ MAILS_SAID = {  # the state, and the note, of part 2; or why the mail is damaged
     "a quoted pair": (FITS, "parameters or comments"), "a line that is no header": (FITS, "a line among the headers"),
     "a blank before the colon": (FITS, "a line among the headers"), "a lone CR": (FITS, "a lone CR among the headers"),
     "an encoded multipart": (FITS, "said to be encoded"), "a lone CR before a boundary": (FITS, "lone CR beside a boundary"),
+    "a line that begins as a boundary": (FITS, "begins as a boundary"), "a last boundary with more": (FITS, "begins as a boundary"),
+    "a blank before the header of a part": (FITS, "a line among the headers"),
+    "an encoded word": (FITS, "parameters or comments"), "a boundary in angles": (FITS, "parameters or comments"),
+    "a boundary in apostrophes": (FITS, "parameters or comments"), "a boundary that ends in a blank": (FITS, "parameters or comments"),
+    "an empty line before": (FITS, "before the first header"), "a mark of UTF-8 before": (FITS, "before the first header"),
+    "a form feed in the type": (FITS, "parameters or comments"), "a control character": (FITS, "a control character among"),
+    "21 headers of the type": ("damaged", "more than 20 headers"),
     "characters that are not of base64": (FITS, "not of base64"), "an empty parameter": (FITS, "parameters or comments"),
 }
 
 
 def letter_of(letter: Letter, sign: Callable[[bytes], bytes]) -> bytes:
     """Returns a signed mail."""
-    signature = b"Content-Type: application/pkcs7-signature; name=smime.p7s\r\nContent-Transfer-Encoding: " + letter.coding + b"\r\n\r\n"
+    signature = letter.blank + b"Content-Type: application/pkcs7-signature; name=smime.p7s\r\nContent-Transfer-Encoding: " + letter.coding + b"\r\n\r\n"
     return (
-        b"From: a@example.org\r\n" * (not letter.head.startswith(b"X-0")) + letter.head + b"MIME-Version: 1.0\r\n" + letter.name + b" " + letter.kind
+        letter.before + b"From: a@example.org\r\n" * (not letter.head.startswith(b"X-0")) + letter.head + b"MIME-Version: 1.0\r\n" + letter.name + b" " + letter.kind
         + b"\r\n" + letter.after + b"\r\n" + letter.decoy + letter.delimiter + b"\r\n" + SIGNED_PART + letter.between + letter.delimiter + b"\r\n"
-        + signature + letter.value(sign(SIGNED_PART)) + b"\r\n--b--\r\n"
+        + signature + letter.value(sign(SIGNED_PART)) + b"\r\n" + letter.end + b"\r\n"
     )
 
 
@@ -368,6 +482,51 @@ def judge_odd_mails(archive, folder: Path, make) -> None:
     count_same("a mail in a digest", came, {"part 1/mail.2": FITS, "": "container"})
 
 
+QUOTED_SAID = {  # what is attached in quoted-printable, and whether all readers have the same octets for it
+    "plain": (b"%s", True), "blanks at the end of a line": (b"%s \r\n", False), "small letters": (b"%s=0a", False), "no digits": (b"%s=x", False),
+    "a lone CR": (b"%s\r.", False), "a soft line break": (b"=\r\n%s", True),
+}
+
+
+def judge_quoted(archive, folder: Path, make) -> None:
+    """What is attached in quoted-printable has a note if readers may decode it in another way."""
+    message = "".join(f"={octet:02X}" for octet in make.cms(b"signed", "-nodetach")).encode()
+    for name, (template, is_same) in QUOTED_SAID.items():
+        mail = b"From: a\r\nContent-Type: application/pkcs7-mime\r\nContent-Transfer-Encoding: quoted-printable\r\n\r\n" + template % message
+        _, facts = said_of(archive, write(folder, f"quoted, {name}.eml", Case(mail, "")))
+        note = facts["body"].note
+        count_if(f"quoted-printable: {name}", not note if is_same else "of quoted-printable" in note, note)
+
+
+def judge_boxes(archive, folder: Path, make) -> None:
+    """Lines that begin with From, which readers of an mbox take otherwise, have a note."""
+    for name, line, signed, words in (
+        ("quoted", b">From here on.\r\n", b"From here on.\r\n", "without >"), ("in the middle", b"From a@b Mon Jan  1 00:00:00 2024\r\n", b"", "begins with From"),
+        ("none", b"", b"", ""),
+    ):
+        part = SIGNED_PART + line
+        der = make.cms(SIGNED_PART + (signed or line))
+        box = b"From a@b Mon Jan  1 00:00:00 2024\n" + letter_of(Letter(), lambda _: der).replace(SIGNED_PART, part) + b"\n"
+        came, facts = said_of(archive, write(folder, f"{name}.mbox", Case(box, "")))
+        note = facts["mail 1!part 2"].note
+        count_if(f"an mbox, {name}", came["mail 1!part 2"] == FITS and (words in note if words else not note), came, note)
+
+
+def judge_leaves(archive, folder: Path, make) -> None:
+    """What lies in a text of a mail, or in a part of any type, is found; so is PEM after what seems to be a header."""
+    pem, der = make.cms(b"signed", "-nodetach", form="PEM"), base64.encodebytes(make.cms(b"signed", "-nodetach"))
+    pgp = b"-----BEGIN PGP SIGNED MESSAGE-----\nHash: SHA512\n\ntext\n-----BEGIN PGP SIGNATURE-----\n\nAAAA\n-----END PGP SIGNATURE-----\n"
+    coded = b"Content-Transfer-Encoding: base64\n\n" + der
+    for name, octets, place, wanted in (
+        ("text.eml", b"From: a\nSubject: x\n\n" + pem, "body", FITS), ("openpgp.eml", b"From: a\n\n" + pgp, "body", "other signed format"),
+        ("subject.pem", b"Subject: x\n" + pem, "body", FITS), ("application.eml", b"From: a\nContent-Type: application/cms\n" + coded, "body", FITS),
+        ("mixed.eml", b"From: a\nContent-Type: multipart/mixed; boundary=c\n\n--c\nContent-Type: x/y\n" + coded + b"\n--c--\n", "part 1", FITS),
+        ("words.eml", b"From: a\n\nSome words.\n", "", "container without message"),
+    ):
+        came, _ = said_of(archive, write(folder, name, Case(octets, "")))
+        count_if(f"a leaf of a mail: {name}", came.get(place) == wanted, came)
+
+
 def judge_line_ends(archive, folder: Path, make) -> None:
     """A part that was signed with LF as it is, as AS2 does it, fits with a note; with another octet it does not."""
     part = SIGNED_PART.replace(b"\r\n", b"\n") + b"\0\n"
@@ -409,9 +568,14 @@ def judge_copy(home: Path) -> None:
     random, make = Random(seed), Maker(home / "made")
     if tally.has_package("pikepdf"):
         judge_odd_pdfs(archive, home / "odd", make)
+        judge_object_streams(archive, home / "odd", make)
+        judge_attachments(archive, home / "odd", make)
         judge_pdfs(archive, home / "pdfs", make, random, pdfs)
     judge_odd_mails(archive, home / "odd", make)
     judge_line_ends(archive, home / "odd", make)
+    judge_quoted(archive, home / "odd", make)
+    judge_boxes(archive, home / "odd", make)
+    judge_leaves(archive, home / "odd", make)
     judge_mails(archive, home / "mails", make, random, mails)
 
 

@@ -13,10 +13,13 @@ Another kind of container is one more `Kind`: its generator, and the readers of 
 """
 
 import base64
+import bz2
+import gzip
 import hashlib
 import io
 import itertools
 import json
+import lzma
 import os
 import re
 import shutil
@@ -40,6 +43,7 @@ from archive_containers import DOCUMENT, FITS, Maker, made_jar, manifest, said_o
 
 CONTAINERS = 1500  # of each kind
 SEED = 7310
+MOST_BY_JARSIGNER = 40  # JARs, for each of which it takes a second
 OTHER = b"Not the document that was signed."
 JAVA = TOP / "tests" / "data" / "ArchiveReaders.java"
 
@@ -150,6 +154,17 @@ def by_java(readers: str) -> Read:
         return shown
 
     return read
+
+
+def by_jarsigner(folder: Path, paths: List[Path]) -> Dict[str, Shown]:
+    """Shows something of a JAR that jarsigner does not verify as a whole; it is begun for each of the first ones."""
+    return {path.name: {} if is_verified(path) else {"what jarsigner refuses": {digest(b"")}} for path in paths[:MOST_BY_JARSIGNER]}
+
+
+def is_verified(path: Path) -> bool:
+    words = ["jarsigner", "-J-Duser.language=en", "-verify", str(path)]
+    said = subprocess.run(words, capture_output=True, text=True, timeout=SECONDS).stdout
+    return "jar verified" in said and "unsigned entries" not in said
 
 
 # ---- zips, written header by header
@@ -289,7 +304,7 @@ def _swapped(it: Zip, name: bytes, random: Random) -> None:
 
 def _other_spelling(it: Zip, name: bytes, random: Random) -> None:
     text = name.decode()
-    spellings = (f"./{text}", f"x/../{text}", f"/{text}", f"{text}/", text.upper(), f"../{text}", text.replace("/", "\\"), f"{text}\0x", f"//{text}",
+    spellings = (f"./{text}", f"x/../{text}", f"/{text}", f"{text}/", text.upper(), f"../{text}", text.replace("/", "\\"), f"{text}\0x", f"//{text}", f"{text};1", f"\7{text}",
                  f"{text}/more", unicodedata.normalize("NFD", text))
     spelt = random.choice(spellings).encode()
     if random.random() < 0.3:
@@ -625,10 +640,13 @@ class Trick(NamedTuple):
     words: str = ""
 
 
-def with_manifest(make: Maker, files: Dict[str, bytes], more: str = "") -> Dict[str, bytes]:
-    """Returns the members of a JAR whose signature file says more."""
-    listed = b"Manifest-Version: 1.0\r\n\r\n" + b"".join(section(name, octets) for name, octets in files.items())
-    signature = f"Signature-Version: 1.0\r\nSHA-256-Digest-Manifest: {base64.b64encode(digest(listed)).decode()}\r\n{more}\r\n".encode()
+def with_manifest(make: Maker, files: Dict[str, bytes], more: str = "", main: bytes = b"", version: str = "1.0", name: bytes = b"",
+                  is_named: bool = True) -> Dict[str, bytes]:
+    """Returns the members of a JAR whose signature file says more, or names no file, or whose manifest says more, or a name in another place."""
+    sections = {it: name + section(it, octets) for it, octets in files.items()}
+    listed = b"Manifest-Version: 1.0\r\n" + main + b"\r\n" + b"".join(sections.values())
+    signature = f"Signature-Version: {version}\r\nSHA-256-Digest-Manifest: {base64.b64encode(digest(listed)).decode()}\r\n{more}\r\n".encode()
+    signature += b"".join(section(it, octets) for it, octets in sections.items() if is_named)
     return {"META-INF/MANIFEST.MF": listed, "META-INF/A.SF": signature, "META-INF/A.RSA": make.cms(signature), **files}
 
 
@@ -639,6 +657,16 @@ def apk_block(*schemes: int) -> bytes:
     return size + parts + size + b"APK Sig Block 42"
 
 
+def shorter(method: int) -> Member:
+    """Returns a member with fewer octets than both headers say."""
+    octets = {"unpacked": len(DOCUMENT) + 83}
+    return Member(b"doc", DOCUMENT, method=method, local=octets, listed=dict(octets))
+
+
+def zip_of(files: Dict[str, bytes]) -> bytes:
+    return Zip([Member(name.encode(), octets) for name, octets in files.items()]).written()
+
+
 def zip_tricks(make: Maker) -> Dict[str, Trick]:
     """Returns zips in which readers find other octets, and some in which all find the same."""
     der, block = make.cms(DOCUMENT), "META-INF/A.RSA"
@@ -647,6 +675,8 @@ def zip_tricks(make: Maker) -> Dict[str, Trick]:
     within, longer = Member(b"doc", DOCUMENT), Member(b"doc", DOCUMENT)
     hidden_in(within, b"doc")
     _longer(Zip([longer]), b"doc", Random(0))
+    with_tail = Member(b"doc", DOCUMENT)
+    with_tail.packed = with_tail.packed_octets() + b"tail"
     unended = Member(b"doc", DOCUMENT)
     unended.packed = bytes([unended.packed_octets()[0] ^ 1]) + unended.packed_octets()[1:]  # its last block is not marked as that
     members = [Member(name.encode(), octets) for name, octets in with_manifest(make, {"doc": DOCUMENT, "A.class": b"class"}).items()]
@@ -661,7 +691,7 @@ def zip_tricks(make: Maker) -> Dict[str, Trick]:
         "64.zip": Trick(in_64({"doc": DOCUMENT, "doc.p7s": der}), "doc.p7s", FITS),
         "two lists.zip": Trick(Zip([other, signature], other_list=[doc, signature]).written(), "doc.p7s", unclear, differ),
         "hidden.zip": Trick(Zip([replace(other, is_listed=False), *plain]).written(), "doc.p7s", unclear, differ),
-        "hidden within.zip": Trick(Zip([within, signature]).written(), "doc.p7s", unclear, differ),
+        "hidden within.zip": Trick(Zip([within, signature]).written(), "doc.p7s", "damaged", "not as many octets"),
         "hidden last.zip": Trick(Zip(plain, gap=other.written()).written(), "doc.p7s", unclear, differ),
         "longer.zip": Trick(Zip([longer, signature]).written(), "doc.p7s", "damaged", "CRC"),
         "other name.zip": Trick(Zip([replace(other, local={"extra": unicode_path(b"doc")}), *plain]).written(), "doc.p7s", unclear, differ),
@@ -678,6 +708,33 @@ def zip_tricks(make: Maker) -> Dict[str, Trick]:
         "some.jar": Trick(Zip(members).written(), block, FITS),
         "other path.jar": Trick(Zip(renamed).written(), block, "does not fit", "A.class"),
         "hidden.jar": Trick(Zip([Member(b"A.class", OTHER, is_listed=False), *members]).written(), block, unclear, differ),
+        "version.zip": Trick(Zip([*plain, Member(b"doc;1", OTHER)]).written(), "doc.p7s", unclear, "two members have one name"),
+        "version of it.zip": Trick(Zip([Member(b"doc;12", DOCUMENT), Member(b"doc;12.p7s", der)]).written(), "doc;12.p7s", FITS, "readers differ on doc;12"),
+        "control character.zip": Trick(Zip([*plain, Member(b"do\7c", OTHER)]).written(), "doc.p7s", unclear, "two members have one name"),
+        "control character in it.zip": Trick(Zip([Member(b"do\7c", DOCUMENT), Member(b"do\7c.p7s", der)]).written(), "do\7c.p7s", FITS, "another path"),
+        "stored more.zip": Trick(Zip([shorter(zipfile.ZIP_STORED), signature]).written(), "doc.p7s", "damaged", "not as many octets"),
+        "deflated more.zip": Trick(Zip([shorter(zipfile.ZIP_DEFLATED), signature]).written(), "doc.p7s", "damaged", "not as many octets"),
+        "deflated tail.zip": Trick(Zip([with_tail, signature]).written(), "doc.p7s", "damaged", "not as many octets"),
+        "no width.zip": Trick(Zip([*plain, Member("do\u200cc".encode(), OTHER)]).written(), "doc.p7s", FITS, "on some file systems"),
+        "stream.zip": Trick(Zip([*plain, Member(b"doc::$DATA", OTHER)]).written(), "doc.p7s", FITS, ""),
+        "stream of it.zip": Trick(Zip([Member(b"a:b", DOCUMENT), Member(b"a:b.p7s", der)]).written(), "a:b.p7s", FITS, "readers differ on a:b"),
+        "other flags.zip": Trick(Zip([replace(doc, local={"flags": 0x1800}), signature]).written(), "doc.p7s", unclear, "two headers"),
+        "nuget.zip": Trick(zip_of({"a.nuspec": b"<a/>", ".signature.p7s": make.cms(b"Version:1\n\n2.16.840.1.101.3.4.2.1-Hash:YQ==\n", "-nodetach")}),
+                           ".signature.p7s", FITS, "readers differ on what .signature.p7s covers"),
+        "mode in the header.zip": Trick(Zip([replace(doc, local={"extra": LINK_OF_LIBARCHIVE}), signature]).written(), "doc.p7s", unclear, "two headers"),
+        "underscore.zip": Trick(Zip([Member(b"x/_", DOCUMENT), Member(b"x/_.p7s", der), Member(b"x/.", OTHER)]).written(), "x/_.p7s", unclear, differ),
+        "underscores.zip": Trick(Zip([Member(b"x/__", DOCUMENT), Member(b"x/__.p7s", der), Member(b"x/..", OTHER)]).written(), "x/__.p7s", unclear, differ),
+        "of FAT.zip": Trick(Zip([Member(b"d-c", DOCUMENT), Member(b"d-c.p7s", der), Member(b"d\xc4c", OTHER, flags=0, listed={"system": 0})]).written(),
+                            "d-c.p7s", unclear, "two members have one name"),
+        "octet ff.zip": Trick(Zip([*plain, Member(b"do\xffc", OTHER, flags=0)]).written(), "doc.p7s", unclear, "two members have one name"),
+        "of a signature.jar": Trick(Zip([*members, Member(b"META-INF/SIG-EVIL.html", OTHER)]).written(), block, "fits, but covers only some files", "SIG-EVIL"),
+        "of some signature.jar": Trick(Zip([*members, Member(b"META-INF/SIG-A.abc", OTHER)]).written(), block, FITS),
+        "no version.jar": Trick(zip_of(with_manifest(make, {"doc": DOCUMENT}, version="2")), block, FITS, "readers differ on a signature file"),
+        "name later.jar": Trick(zip_of(with_manifest(make, {"doc": DOCUMENT}, name=b"A: b\r\n")), block, FITS, "readers differ on a manifest with a section"),
+        "no names.jar": Trick(zip_of(with_manifest(make, {"doc": DOCUMENT}, is_named=False)), block, FITS, "readers differ on files that the signature file"),
+        "versions.jar": Trick(zip_of(with_manifest(make, {"doc": DOCUMENT, "META-INF/versions/9/doc": OTHER}, main=b"Multi-Release: true\r\n")), block, FITS,
+                              "readers differ on members for which"),
+        "no versions.jar": Trick(zip_of(with_manifest(make, {"doc": DOCUMENT}, main=b"Multi-Release: true\r\n")), block, FITS),
         "dots at the end.zip": Trick(Zip([*plain, Member(b"doc. ", OTHER)]).written(), "doc.p7s", FITS, "on some file systems"),
         "capitals.jar": Trick(Zip([*members, Member(b"a.class", OTHER)]).written(), block, "fits, but covers only some files", "on some file systems"),
         "signed.apk": Trick(Zip(said, gap=apk_block(0x7109871A, 0xF05368C0)).written(), block, FITS, "an APK signing block of 64 octets"),
@@ -724,9 +781,34 @@ def tar_tricks(make: Maker) -> Dict[str, Trick]:
         "slash.tar": beside(differ, doc, signature, pax(("path", b"x/")), Entry(b"o", OTHER)),
         "size of a link.tar": beside(differ, doc, signature, pax(("size", b"512")), Entry(b"l", kind=b"2", link=b"o"), Entry(b"doc", OTHER)),
         "dots at the end.tar": beside("on some file systems", doc, signature, Entry(b"doc.", OTHER)),
+        "absolute hard link.tar": beside(differ, Entry(b"orig", DOCUMENT), Entry(b"doc", kind=b"1", link=b"/orig"), signature),
+        "hard link of steps.tar": beside(differ, Entry(b"orig", DOCUMENT), Entry(b"doc", kind=b"1", link=b"../orig"), signature),
+        "hard link of a dot.tar": beside("", Entry(b"./orig", DOCUMENT), Entry(b"./doc", kind=b"1", link=b"./orig"), signature),
+        "hard link before.tar": beside(differ, Entry(b"doc", kind=b"1", link=b"orig"), Entry(b"orig", DOCUMENT), signature),
+        "size by pax.tar": beside(differ, pax(("size", b"%d" % len(DOCUMENT))), replace(doc, octets=DOCUMENT, size=b"00000000005\0"), signature),
+        "same size by pax.tar": beside("", pax(("size", b"%d" % len(DOCUMENT))), doc, signature),
         "size.tar": beside(differ, doc, signature, Entry(b"o", Entry(b"doc", OTHER).written(), size=b"1_0")),
         "message by a hard link.tar": Trick(tar(doc, Entry(b"x", der), Entry(b"doc.p7s", kind=b"1", link=b"x")), "doc.p7s", FITS),
     }
+
+
+def packed_tricks(make: Maker) -> Dict[str, Trick]:
+    """Returns packed files of several streams: some readers stop after the first, and others go on, if something lies between them."""
+    message, zeros = make.cms(DOCUMENT, "-nodetach"), bytes(4)
+    tar = b"".join(it.written() for it in (Entry(b"doc", DOCUMENT), Entry(b"doc.p7s", make.cms(DOCUMENT)))) + bytes(512)
+    other = Entry(b"doc", OTHER).written() + END
+    words = "no further packed stream follows"
+    packings = {"gz": gzip.compress, "xz": lzma.compress, "bz2": bz2.compress}
+    found = {}
+    for ending, pack in packings.items():
+        first, second = pack(message[:500]), pack(message[500:])
+        found[f"two.p7m.{ending}"] = Trick(first + second, "", FITS)
+        found[f"zeros between.p7m.{ending}"] = Trick(first + zeros + second, "", "damaged", words)
+        found[f"zeros after.p7m.{ending}"] = Trick(first + second + zeros, "", FITS)
+        found[f"more after.p7m.{ending}"] = Trick(pack(message) + b"more", "", "damaged", words)
+        found[f"zeros in it.tar.{ending}"] = Trick(pack(tar) + zeros + pack(other), "doc.p7s", FITS, "what follows its damage")
+        found[f"cut.p7m.{ending}"] = Trick(first + second[:-9], "", "damaged", "end")
+    return found
 
 
 def asic_tricks(make: Maker) -> Dict[str, Trick]:
@@ -749,6 +831,9 @@ def asic_tricks(make: Maker) -> Dict[str, Trick]:
         "none.asice": Trick(container(signature, make.cms(b"another"), other, mine), signature, "does not fit", words),
         "signed for another.asice": Trick(container(signature, make.cms(other), other, mine), signature, "does not fit", words),
     }
+
+
+LINK_OF_LIBARCHIVE = struct.pack("<HHBHHL", 0x6C78, 9, 7, 3 << 8 | 20, 0, (stat.S_IFLNK | 0o777) << 16)  # by which bsdtar makes a link
 
 
 def unicode_path(name: bytes) -> bytes:
@@ -848,12 +933,14 @@ def judge_copy(home: Path) -> None:
     given = [int(it) for it in sys.argv[1:3] if it.isdigit()]
     number, seed = [*given, *[CONTAINERS, SEED][len(given) :]]
     random, of_zips = Random(seed), zip_readers()
-    tricks = {**zip_tricks(make), **tar_tricks(make), **asic_tricks(make)}
+    tricks = {**zip_tricks(make), **tar_tricks(make), **asic_tricks(make), **packed_tricks(make)}
     judge_tricks(archive, home / "by hand", tricks)
     judge_check(home, home / "listed" / "by hand", tricks)
+    of_jars = {**of_zips, **({"jarsigner": by_jarsigner} if tally.has("jarsigner") else {})}
     for some, readers in ((zip_kinds(make), of_zips), (tar_kinds(make), tar_readers())):
         for name, it in some.items():
-            judge_kind(archive, home / f"random {name}", name, Kind(name.rpartition(".")[2], it, readers), random, number // len(some))
+            kind = Kind(name.rpartition(".")[2], it, of_jars if name == "jar" else readers)
+            judge_kind(archive, home / f"random {name}", name, kind, random, number // len(some))
 
 
 if __name__ == "__main__":

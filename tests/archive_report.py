@@ -27,7 +27,8 @@ from types import SimpleNamespace
 from xml.etree import ElementTree
 
 from archive import RELEASE, SECONDS, TOP, asked, command, count, count_if, count_same, ended, grouped, judged_in_a_copy, modules_of, tally, tarred
-from archive import write_files
+from archive import write_files, zipped
+from archive_containers import Maker
 
 SEED = 3161
 ROWS = 5000  # of the store at random
@@ -243,6 +244,20 @@ def judge_unreadable(page, folder):
     count_same("unreadable files", came, wanted)
 
 
+def judge_noted(home):
+    """What fits with a note is counted by itself, and the page names the command that lists it."""
+    folder = home / "noted"
+    sealed = Maker(home / "noted maker").cms(b"signed", "-nodetach")
+    write_files(folder, {"a.p7m": sealed, "a.zip": b"before" + zipped({"b.p7m": sealed}), "b.zip": zipped({"b.p7m": sealed})})
+    command(home, "index", folder, "--store", "noted.db")
+    page = judge_page("a page with notes", command(home, "report", "--html", "-", "--store", "noted.db"))
+    count_same("what fits with a note", page.numbers("fit", "noted"), [3, 1])
+    count_same("states with notes", {row[0]: row[2] for row in page.rows("states")}, {"fits": 2, "fits, with a note": 1})
+    count_if("the command for notes", "check --noted" in page.texts["noted"], page.texts["noted"])
+    listed = [Path(it["file"]).name for it in map(json.loads, command(home, "check", "--noted", "--json", "--store", "noted.db").splitlines())]
+    count_same("check --noted", listed, ["a.zip!b.p7m"])
+
+
 def judge_duplicates(page, files):
     groups = {digest: names for digest, names in names_by(files, "digest").items() if len(names) > 1}
     lengths = {digest: [len(files[name].octets) for name in names] for digest, names in groups.items()}
@@ -395,6 +410,7 @@ def differs_from(summary, rows, now):
     wanted = {
         "files": sum(row["member"] == "" for row in rows),
         "states": Counter(row["state"] or "not judged" for row in messages),
+        "noted": sum(row["state"] == "fits" and bool(row["note"]) for row in messages),
         "classes": Counter(row["what"] for row in rows),
         "kinds": totals(messages, "kind", lambda it: (1, it["is_der"] is False, it["length"])), "forms": totals(messages, "form", counts_of_states),
         "refusals": [(reason, len(some), first_of(some)) for reason, some in groups_of(rows, "reason").items()],
@@ -539,6 +555,7 @@ def judge_copy(home):
     numbers = empty.numbers("signatures", "fit", "differ", "unjudged")
     count_same("an empty store", (numbers, "empty" in empty.texts, empty.cards), ([0] * 4, True, []))
     judge_random_store(home, archive)
+    judge_noted(home)
     judge_words(archive)
     for judge in (judge_failure, judge_places, judge_screenshots):
         judge(home, text)

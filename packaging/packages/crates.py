@@ -1,4 +1,4 @@
-"""The crates of this repository, and which of them each stands on, as crates.txt has them."""
+"""The crates of this repository, and which of them each depends on, as crates.txt has them."""
 
 import re
 from pathlib import Path

@@ -1,4 +1,4 @@
-"""The packages for Debian, by dpkg-deb. What each is and stands on is in packaging/debian/NAME.control.
+"""The packages for Debian, by dpkg-deb. What each is and depends on is in packaging/debian/NAME.control.
 
 They are not made by debhelper, since what is packed was proved and built elsewhere. They depend on `sse4.2-support`, which refuses
 processors older than x86-64-v2. `python3-cms-canon` has a link to the library of `libcms-canon0`, and no copy, so that one library in a

@@ -155,7 +155,7 @@ def called(function: Any, room: int, *words: object, size: int = 1) -> bytes:
 
 
 def _memory_for(count: int, size: int) -> Union[bytearray, mmap.mmap]:
-    """Memory for so many items. Of rows and findings there are few as a rule: to zero all of it would take longer than the call."""
+    """Memory for so many items. There are few rows and findings as a rule: to zero all of it would take longer than the call."""
     if size == 1 or count * size <= _LARGE:
         return bytearray(count * size)
     try:

@@ -106,7 +106,7 @@ class Attribute(NamedTuple):
     oid: str
     """attrType, as `1.2.840.113549.1.9.4`; written as that of an `AlgorithmIdentifier`."""
     values: Tuple[bytes, ...]
-    """attrValues in the order read, each one element. Of an unsigned attribute countersignature there are none here."""
+    """attrValues in the order read, each one element. An unsigned attribute countersignature has none here."""
     countersignatures: Tuple[SignerInfo, ...] = ()
     """The values of an unsigned attribute countersignature in the order read."""
 

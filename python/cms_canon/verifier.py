@@ -21,7 +21,7 @@ The certificates of a message are looked at once for all its signers. So what is
 proportion to the length of the message.
 
 The algorithms are RSA by PKCS #1 v1.5 (RFC 3370, RFC 5754), RSASSA-PSS (RFC 4056), ECDSA and DSA (RFC 3370, RFC 5754), with MD5,
-SHA-1, SHA-2 or SHA-3 as far as there is an identifier for them, and Ed25519 and Ed448 (RFC 8419). Of ECDSA and DSA, parameters that are
+SHA-1, SHA-2 or SHA-3 as far as there is an identifier for them, and Ed25519 and Ed448 (RFC 8419). For ECDSA and DSA, parameters that are
 NULL are the same as none, as gpgsm and the JDK write them; and the kind of the key, id-ecPublicKey, is ECDSA by digestAlgorithm, as
 iText writes it. OpenSSL verifies both.
 

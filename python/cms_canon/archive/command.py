@@ -81,7 +81,7 @@ def _without_secrets(text: str) -> str:
 @click.group(cls=_Commands, context_settings=HELP)
 @click.version_option(cms_canon.__version__, message="cms-canon-archive %(version)s")
 def main() -> None:
-    """Index the signatures and time-stamps of an archive: where they are, whether they fit their documents, and what they stand on.
+    """Index the signatures and time-stamps of an archive: their places, whether they fit their documents, and which algorithms they use.
 
     Files that are the same message have the same SHA-256 of their DER, however they are encoded.
     """
@@ -309,11 +309,12 @@ def load_command(url: str, wait: Optional[float]) -> None:
 
 @main.command("check")
 @click.option("--all", "all_of_them", is_flag=True, help="List the messages that fit and break no rule too.")
+@click.option("--noted", is_flag=True, help="List only the messages that fit with a note.")
 @_store
 @_wait
 @_json
 @_csv
-def check_command(all_of_them: bool, url: str, wait: Optional[float], form: Optional[str]) -> None:
+def check_command(all_of_them: bool, noted: bool, url: str, wait: Optional[float], form: Optional[str]) -> None:
     """List what is wrong with the messages, by file.
 
     The status is 1 if the digests of any message or of a token in it do not fit, or a signature is wrong.
@@ -322,7 +323,8 @@ def check_command(all_of_them: bool, url: str, wait: Optional[float], form: Opti
 
     def rows() -> Iterator[Dict[str, Any]]:
         nonlocal differs
-        for row in _with_name(queries.checked(Store(url, wait=wait), all_of_them)):
+        store = Store(url, wait=wait)
+        for row in _with_name(queries.noted(store) if noted else queries.checked(store, all_of_them)):
             differs = differs or row["state"] == DigestState.DIFFERS.value or row["verdict"] == "wrong" or row["wrong_times"] > 0
             yield row
 
@@ -345,13 +347,13 @@ def signers_command(url: str, wait: Optional[float], form: Optional[str]) -> Non
 
 
 @main.command("algorithms")
-@click.option("--weak", is_flag=True, help="List what stands on MD5, SHA-1, or keys of RSA or DSA below 2,048 bits.")
+@click.option("--weak", is_flag=True, help="List what uses MD5, SHA-1, or keys of RSA or DSA below 2,048 bits.")
 @_store
 @_wait
 @_json
 @_csv
 def algorithms_command(weak: bool, url: str, wait: Optional[float], form: Optional[str]) -> None:
-    """List on which algorithms and keys signers, certificates, time-stamps and manifests stand, and how many each.
+    """List which algorithms and keys signers, certificates, time-stamps and manifests use, and how many there are of each.
 
     Of certificates these are the algorithms by which they are signed, and of manifests only what they compare by MD5 or SHA-1 alone.
     """

@@ -12,7 +12,7 @@ _FORMS = {1: "line", 2: "lines"}
 
 
 class Lines:
-    """Lines of `rows`. Of one that is not whole only the number is kept; the file after it is left out, since it may be of this file."""
+    """Lines of `rows`. Only the number of one that is not whole is kept; the file after it is left out, since the line may be of this file."""
 
     def __init__(self) -> None:
         self._wrong: List[int] = []

@@ -14,7 +14,7 @@ from matplotlib.ticker import FuncFormatter, MaxNLocator
 from .texts import size_of
 
 MOST_BARS = 60  # of a plot of years: if there are more, a bar is a decade or a century
-_BAR, _LINE = "#010203", "#040506"  # colours that stand for those of the page
+_BAR, _LINE = "#010203", "#040506"  # placeholders for the colours of the page
 _COLOURS = {_BAR: "var(--bar)", _LINE: "var(--line)", "#000000": "currentColor"}
 _SETTINGS = {"svg.fonttype": "none", "font.size": 11}
 _NO_METADATA = dict.fromkeys(("Creator", "Date", "Format", "Type"))

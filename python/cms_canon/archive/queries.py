@@ -70,12 +70,20 @@ def checked(store: Store, all_of_them: bool) -> Iterator[Row]:
     return store.asked(sa.select(FILES, wrong.label("wrong_times")).where(asked).order_by(FILES.c.path, FILES.c.member))
 
 
+IS_NOTED = (FILES.c.what == Class.MESSAGE.value) & (FILES.c.state == State.FITS.value) & (sa.func.coalesce(FILES.c.note, "") != "")
+
+
+def noted(store: Store) -> Iterator[Row]:
+    """Gives the messages that fit, and of which something else is to be said; `wrong_times` is 0, since none of them is asked for its tokens."""
+    return store.asked(sa.select(FILES, sa.literal(0).label("wrong_times")).where(IS_NOTED).order_by(FILES.c.path, FILES.c.member))
+
+
 def _joined(table: sa.Table, *conditions: Any) -> Any:
     return sa.select(table).where(*conditions).order_by(table.c.path, table.c.member, table.c.number)
 
 
 def is_weak(table: Any = SIGNERS.c) -> Any:
-    """Returns the condition that a signer stands on MD5 or SHA-1, or on a short key."""
+    """Returns the condition that a signer uses MD5, SHA-1 or a short key."""
     is_digest = table.digest.in_(WEAK_DIGESTS)
     is_signature = sa.or_(*(table.signature.like(f"%-{it}") for it in WEAK_DIGESTS))
     return is_digest | is_signature | (table.key.in_(("RSA", "DSA")) & (table.bits < FEWEST_BITS))
@@ -86,8 +94,8 @@ def signers(store: Store) -> Iterator[Row]:
     return store.asked(_joined(SIGNERS))
 
 
-class StandsOn(str, Enum):
-    """What stands on algorithms."""
+class UsedBy(str, Enum):
+    """What uses an algorithm."""
 
     SIGNER = "signer"
     CERTIFICATE = "certificate"
@@ -104,16 +112,16 @@ def is_weak_certificate(table: Any = SIGNERS.c) -> Any:
 
 
 def weak(store: Store) -> Iterator[Row]:
-    """Gives what stands on MD5, SHA-1 or a short key: signers, the signatures of their certificates, imprints of time-stamps, and manifests."""
+    """Gives what uses MD5, SHA-1 or a short key: signers, the signatures of their certificates, imprints of time-stamps, and manifests."""
     for row in store.asked(_joined(SIGNERS, is_weak())):
-        yield {**row, "of": StandsOn.SIGNER.value}
+        yield {**row, "of": UsedBy.SIGNER.value}
     for row in store.asked(_joined(SIGNERS, is_weak_certificate())):
-        yield {**row, "digest": None, "signature": row["certificate"], "key": None, "bits": None, "of": StandsOn.CERTIFICATE.value}
+        yield {**row, "digest": None, "signature": row["certificate"], "key": None, "bits": None, "of": UsedBy.CERTIFICATE.value}
     for row in store.asked(_joined(TIMES, TIMES.c.digest.in_(WEAK_DIGESTS))):
-        yield {**row, "signature": None, "key": None, "bits": None, "of": StandsOn.TIME_STAMP.value}
+        yield {**row, "signature": None, "key": None, "bits": None, "of": UsedBy.TIME_STAMP.value}
     for row in store.rows(FILES.c.note.like("%compares by % alone%")):
         for digest in _weak_in(row["note"]):
-            alone = {"digest": digest, "signature": None, "key": None, "bits": None, "number": "", "of": StandsOn.MANIFEST.value}
+            alone = {"digest": digest, "signature": None, "key": None, "bits": None, "number": "", "of": UsedBy.MANIFEST.value}
             yield {"path": row["path"], "member": row["member"], **alone}
 
 
@@ -123,20 +131,20 @@ def _weak_in(note: str) -> List[str]:
 
 
 def algorithms(store: Store) -> Iterator[Row]:
-    """Gives on which algorithms and keys signers, the signatures of certificates, imprints and weak manifests stand, and how many of each."""
+    """Gives which algorithms and keys signers, the signatures of certificates, imprints and weak manifests use, and how many there are of each."""
     columns = [SIGNERS.c[it] for it in _ALGORITHMS]
     is_weak_one = sa.func.max(sa.case((is_weak(), 1), else_=0)).label("is_weak")
     asked = sa.select(*columns, sa.func.count().label("signers"), is_weak_one).group_by(*columns).order_by(sa.func.count().desc(), *columns)
     for row in store.asked(asked):
-        yield {**row, "is_weak": bool(row["is_weak"]), "of": StandsOn.SIGNER.value}
-    yield from _counted(store, SIGNERS.c.certificate, "signature", StandsOn.CERTIFICATE)
-    yield from _counted(store, TIMES.c.digest, "digest", StandsOn.TIME_STAMP)
+        yield {**row, "is_weak": bool(row["is_weak"]), "of": UsedBy.SIGNER.value}
+    yield from _counted(store, SIGNERS.c.certificate, "signature", UsedBy.CERTIFICATE)
+    yield from _counted(store, TIMES.c.digest, "digest", UsedBy.TIME_STAMP)
     manifests = Counter(it for row in store.rows(FILES.c.note.like("%compares by % alone%")) for it in _weak_in(row["note"]))
     for digest, count in sorted(manifests.items()):
-        yield {**dict.fromkeys(_ALGORITHMS), "digest": digest, "signers": count, "is_weak": True, "of": StandsOn.MANIFEST.value}
+        yield {**dict.fromkeys(_ALGORITHMS), "digest": digest, "signers": count, "is_weak": True, "of": UsedBy.MANIFEST.value}
 
 
-def _counted(store: Store, column: Any, name: str, of: StandsOn) -> Iterator[Row]:
+def _counted(store: Store, column: Any, name: str, of: UsedBy) -> Iterator[Row]:
     counts = sa.select(column.label("algorithm"), sa.func.count().label("count")).where(column.is_not(None)).group_by(column)
     asked = counts.order_by(sa.func.count().desc(), column)
     for row in store.asked(asked):

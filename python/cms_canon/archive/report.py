@@ -32,8 +32,10 @@ KINDS = {
     "request": "Time-stamp requests",
     "certificates": "Certificates alone",
 }
+FITS_NOTED = "fits, with a note"
 STATES = {  # what each state means, in the order of the page
     State.FITS.value: "The document is as it was signed or stamped.",
+    FITS_NOTED: "The same, and something else is to be said, as that readers of the container may show something else.",
     State.EARLIER.value: "The document was signed in an earlier revision: what was added later is not covered.",
     State.PARTLY.value: "What is covered is as it was signed; there are other files, parts or octets beside it.",
     State.NO_REVISION.value: "What is covered is not the file, nor a revision of it.",
@@ -139,7 +141,8 @@ def _kinds(summary: Summary) -> Table:
 
 def tables_of(summary: Summary) -> List[Table]:
     """Returns the tables of a page."""
-    states = [(it, meaning, summary.states.get(it, 0)) for it, meaning in STATES.items() if summary.states.get(it) or it == State.FITS.value]
+    counts = {**summary.states, State.FITS.value: summary.of(State.FITS) - summary.noted, FITS_NOTED: summary.noted}
+    states = [(it, meaning, counts.get(it, 0)) for it, meaning in STATES.items() if counts.get(it) or it == State.FITS.value]
     algorithms = [(*it[:4], it.signers, "weak" if it.is_weak else "") for it in summary.algorithms]
     who = [
         (it.subject or "no certificate in the message", it.signers, *(day and day[:10] for day in it[2:5]), "ended" if it.has_ended else "")

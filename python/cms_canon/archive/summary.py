@@ -10,7 +10,7 @@ from typing import Any, Dict, Iterator, List, NamedTuple, Optional, Tuple
 import sqlalchemy as sa
 
 from .containers.found import Class, State
-from .queries import is_weak, name_of
+from .queries import IS_NOTED, is_weak, name_of
 from .store import FILES, SIGNERS, TIMES, Store
 
 FIRST = 5  # files of each refusal, error and group that the page names
@@ -73,7 +73,7 @@ class Duplicates(NamedTuple):
 
 
 class Algorithm(NamedTuple):
-    """How many signers stand on these algorithms and this key."""
+    """How many signers use these algorithms and this key."""
 
     digest: Optional[str]
     signature: Optional[str]
@@ -111,6 +111,8 @@ class Summary(NamedTuple):
     files: int
     octets: int
     states: Dict[str, int]
+    noted: int
+    """How many messages fit with a note."""
     classes: Dict[str, int]
     kinds: Dict[str, Kind]
     differing: List[File]
@@ -290,6 +292,7 @@ def summary_of(store: Store, now: Optional[datetime] = None) -> Summary:
             files=files,
             octets=octets,
             states=_counts(connection, _STATE, _IS_MESSAGE),
+            noted=int(connection.execute(sa.select(sa.func.count()).select_from(FILES).where(IS_NOTED)).scalar_one()),
             classes=_counts(connection, FILES.c.what),
             kinds=kinds_of(connection),
             differing=_first_of(connection, FILES.c.state, FILES.c.state == State.DIFFERS.value).get(State.DIFFERS.value, []),

@@ -16,7 +16,7 @@ import cms_canon
 from .reading import READER
 from .tables import SCHEMA
 
-_DIGITS = 12  # of a SHA-256: it tells releases apart, and is no proof
+_DIGITS = 12  # of a SHA-256: enough to distinguish releases, and no proof
 ABOUT_NAMES = {"package": "package", "library": "shared library", "schema": "reader"}
 
 

@@ -15,7 +15,7 @@ def is_there(path: str) -> bool:
 
 
 def _status(path: str) -> str:
-    """Returns what tells whether a file is the same, as text; empty if it is not there."""
+    """Returns the text by which a file is known to be the same; empty if it is not there."""
     try:
         status = os.lstat(path)
     except OSError:
@@ -73,7 +73,7 @@ def _in_folder(top: str) -> Iterator[Entry]:
 def tops_of(paths: Iterable[str]) -> List[str]:
     """Returns the paths that are named without those that lie in another one of them, so that no file is given twice.
 
-    A symbolic link that is named is followed: it stands for what it points to.
+    A symbolic link that is named is followed: what it points to is taken in its place.
     """
     names = {os.path.realpath(path) if os.path.islink(path) else os.path.abspath(path) for path in paths}
     folders = set(filter(os.path.isdir, names))

@@ -27,7 +27,7 @@ class Unreadable(Ended):
 
 
 class _File(io.FileIO):
-    """A file of which it is told apart whether it is damaged or cannot be read."""
+    """A file that raises an error of its own if the file system cannot read it, which is not the same as a damaged file."""
 
     def readinto(self, buffer: Any) -> Optional[int]:
         try:

@@ -12,7 +12,7 @@ from typing import Callable, Dict, Iterator, Optional, Tuple
 import cms_canon
 
 from . import armour, mail, named, packed, pdf, zips
-from .found import Class, Found, counted
+from .found import Class, Found, counted, is_message
 from .packed import Packing
 from .sources import DEEPEST, DEEPEST_MAIL, TEXT, Ended, Source, TooLarge, in_memory
 
@@ -91,13 +91,7 @@ def _content_of(message: Found) -> Optional[bytes]:
 
 def _is_something_else(it: Found) -> bool:
     """Whether what may be a message in signed content is none, as a certificate."""
-    if it.where or it.what is not Class.MESSAGE or it.octets is None:
-        return False
-    try:
-        cms_canon.convert(it.octets)
-    except cms_canon.Refused:
-        return True
-    return False
+    return not it.where and it.what is Class.MESSAGE and it.octets is not None and not is_message(it.octets)
 
 
 def _look_for(source: Source, depth: int, mails: int) -> Look:

@@ -11,17 +11,26 @@ from contextlib import contextmanager
 from dataclasses import dataclass
 from decimal import Decimal
 from io import BytesIO
-from typing import Any, Iterator, List, NamedTuple, Optional, Set, Tuple
+from itertools import chain
+from typing import Any, Iterable, Iterator, List, NamedTuple, Optional, Sequence, Set, Tuple
 
+from .pdf_octets import Named, has_files, named_in, oddities_of
 from .sources import Budget
 
 MOST_FIELDS = 3_000  # of one form that are read: the parser takes a third of a millisecond for each
 MOST_ATTACHED = 1_000  # files
+MOST_PACKED = 3_000  # object streams
+MOST_OBJECTS = 20_000  # that are looked at for files which are attached to pages
 MEMORY = 64 << 20  # octets that the parser may take
 _PAGE = resource.getpagesize()
 _DAMAGED = "the PDF is damaged, so that readers may differ on its signatures"
 _ODD_FIELD = "the field of this signature does not say that it is one, or in which field it is, so that readers differ"
+_FIELD_WITH_KIDS = "readers differ on a signature whose field has others, or what shows it, below it"
 _SUBFILTERS = tuple(f"/{it}" for it in ("adbe.pkcs7.detached", "adbe.pkcs7.sha1", "adbe.x509.rsa_sha1", "ETSI.CAdES.detached", "ETSI.RFC3161"))
+_TYPES = ("/Sig", "/DocTimeStamp")
+_OTHER_PARAMETERS = ("/DecodeParms", "/DP", "/F", "/FFilter", "/FDecodeParms")  # by which a stream is unpacked in another way, or is elsewhere
+IN_NO_FIELD = "no field of the form has this signature, so that readers do not show it"
+_PACKED_TWICE = "readers differ on an object stream in which two objects have one number"
 _HARMLESS = "reported number of objects"  # of a warning: which no reader believes
 _PERMISSIONS = ("/DocMDP", "/UR3", "/UR")
 
@@ -51,10 +60,12 @@ class Form(NamedTuple):
     signatures: List[FormSignature]
     why_unsure: str
     """Why it may have other signatures for other readers; empty if that is not so."""
-    attached: List[Tuple[str, Any]] = []
-    """The names of files with their streams, as the parser has them."""
+    attached: Sequence[Tuple[str, Any, Tuple[str, ...]]] = ()
+    """The names of files with their streams, as the parser has them, and how these are packed."""
     pdf: Any = None
     """The parser, which reads them."""
+    has_others: bool = False
+    """Whether files may be attached to pages of which nobody knows, since it has too many objects."""
 
 
 class Attachment(NamedTuple):
@@ -95,42 +106,88 @@ def form_of(octets: bytes, budget: Budget) -> Form:
     except ModuleNotFoundError:
         return Form([], "which signatures its form has is not known: this needs the package pikepdf")
     signatures: List[FormSignature] = []
-    attached: List[Tuple[str, Any]] = []
-    pdf, why = None, ""
+    attached: List[Tuple[str, Any, Tuple[str, ...]]] = []
+    pdf, why, has_others = None, "", False
+    named = named_in(octets, MOST_PACKED)
     with _little_memory():
         try:
             pdf = pikepdf.open(BytesIO(octets), attempt_recovery=False)  # or it would look for objects in all octets
             for it in _signatures_of(pikepdf, pdf):
                 budget.take_member()
                 signatures.append(it)
-            attached = list(_attached_to(pikepdf, pdf.Root, budget))
-            why = _DAMAGED if any(_HARMLESS not in str(it) for it in pdf.get_warnings()) else ""
+            packed = _packed_in(pikepdf, pdf, named, budget)
+            has_others = packed.has_files and len(pdf.objects) > MOST_OBJECTS
+            attached = list(_attached_to(pikepdf, pdf, budget, packed.has_files and not has_others))
+            why = _DAMAGED if any(_HARMLESS not in str(it) for it in pdf.get_warnings()) else packed.why_unsure
         except _TooMany as too_many:
             why = str(too_many)
         except pikepdf.PasswordError:
             why = "which signatures its form has is not known: that needs a password"
         except (pikepdf.PdfError, AttributeError, KeyError, TypeError, ValueError, RuntimeError, ArithmeticError, MemoryError):
             why = _DAMAGED
-    return Form(signatures, why, attached, pdf)
+    return Form(signatures, "; ".join(filter(None, (why, *oddities_of(octets, named)))), attached, pdf, has_others)
 
 
-def _attached_to(pikepdf: Any, root: Any, budget: Budget) -> Iterator[Tuple[str, Any]]:
-    """Gives the files that are named as embedded, or as associated with the document."""
+class _Packed(NamedTuple):
+    """Why readers may find other objects in object streams, and whether something in the PDF may have embedded files."""
+
+    why_unsure: str
+    has_files: bool
+
+
+def _packed_in(pikepdf: Any, pdf: Any, named: Named, budget: Budget) -> _Packed:
+    """Returns what is to be said of the object streams. Raises `_TooMany` if there are more than are read."""
+    if len(named.packed) > MOST_PACKED:
+        raise _TooMany(f"it has more than {MOST_PACKED:,} object streams, so that not all of its signatures are known")
+    is_twice, files = None in named.packed, named.has_files
+    for number in (it for it in named.packed if it is not None):
+        stream = pdf.get_object(number, 0)
+        if not isinstance(stream, pikepdf.Stream):
+            is_twice |= isinstance(stream, pikepdf.Name)  # the type of a stream that is not known
+            continue
+        octets = stream.read_bytes()
+        budget.take(len(octets))
+        numbers = octets[: int(stream.get("/First", 0))].split()[::2]
+        is_twice |= len(set(map(int, numbers))) != len(numbers)
+        files = files or has_files(octets)
+    return _Packed(_PACKED_TWICE if is_twice else "", files)
+
+
+def _attached_to(pikepdf: Any, pdf: Any, budget: Budget, has_files: bool) -> Iterator[Tuple[str, Any, Tuple[str, ...]]]:
+    """Gives the files that are named as embedded, or as associated with the document, and then those that other objects have."""
+    yield from _streams_of(pikepdf, chain(_named_in(pikepdf, pdf.Root, budget), _in_objects(pikepdf, pdf) if has_files else ()))
+
+
+def _in_objects(pikepdf: Any, pdf: Any) -> Iterator[Any]:
+    """Gives what may specify files, as annotations and pages have them."""
+    for it in pdf.objects:
+        some = [it, *(_some(pikepdf, it, 1) if isinstance(it, pikepdf.Array) else ())]
+        if isinstance(it, pikepdf.Dictionary):
+            some += [*_some(pikepdf, it.get("/Annots"), 1), *_some(pikepdf, it.get("/AF"), 1)]
+        for one in (it for it in some if isinstance(it, pikepdf.Dictionary)):
+            yield one
+            yield one.get("/FS")
+
+
+def _named_in(pikepdf: Any, root: Any, budget: Budget) -> List[Any]:
+    """Returns what specifies the files that are named as embedded, or as associated with the document."""
     names = root.get("/Names")
     left = [names.get("/EmbeddedFiles")] if isinstance(names, pikepdf.Dictionary) else []
     specifications = _some(pikepdf, root.get("/AF"), 2)
     nodes: Set[Tuple[int, int]] = set()
+    count = 0
     while left:
         node = left.pop()
         budget.take_member()
         if not isinstance(node, pikepdf.Dictionary) or node.is_indirect and node.objgen in nodes:
             continue
         nodes.add(node.objgen)
-        left += [it for it in _some(pikepdf, node.get("/Kids"), 1) if it.is_indirect]
+        count += 1
+        left += _some(pikepdf, node.get("/Kids"), 1)
         specifications += _some(pikepdf, node.get("/Names"), 2)[1::2]
-        if len(specifications) + len(nodes) + len(left) > MOST_ATTACHED:
+        if len(specifications) + count + len(left) > MOST_ATTACHED:
             raise _TooMany(f"it has more than {MOST_ATTACHED:,} files attached, so that not all of them are looked into")
-    yield from _streams_of(pikepdf, specifications)
+    return specifications
 
 
 def _some(pikepdf: Any, array: Any, most: int) -> List[Any]:
@@ -142,8 +199,8 @@ def _some(pikepdf: Any, array: Any, most: int) -> List[Any]:
     return list(array)
 
 
-def _streams_of(pikepdf: Any, specifications: List[Any]) -> Iterator[Tuple[str, Any]]:
-    """Gives the streams of files, each once, with their names."""
+def _streams_of(pikepdf: Any, specifications: Iterable[Any]) -> Iterator[Tuple[str, Any, Tuple[str, ...]]]:
+    """Gives the streams of files, each once, with their names, and how they are packed. Raises `_TooMany` if there are more than are read."""
     given: Set[Tuple[int, int]] = set()
     for it in specifications:
         embedded = it.get("/EF") if isinstance(it, pikepdf.Dictionary) else None
@@ -151,17 +208,25 @@ def _streams_of(pikepdf: Any, specifications: List[Any]) -> Iterator[Tuple[str, 
             stream = embedded.get(key)
             if isinstance(stream, pikepdf.Stream) and stream.objgen not in given:
                 given.add(stream.objgen)
-                yield str(it.get("/UF", it.get("/F", "without name")))[:200], stream
+                if len(given) > MOST_ATTACHED:
+                    raise _TooMany(f"it has more than {MOST_ATTACHED:,} files attached, so that not all of them are looked into")
+                yield str(it.get("/UF", it.get("/F", "without name")))[:200], stream, _filters_of(pikepdf, stream)
+
+
+def _filters_of(pikepdf: Any, stream: Any) -> Tuple[str, ...]:
+    """Returns by which filters a stream is packed, and what else readers need to unpack it."""
+    filters = stream.get("/Filter")
+    some = _some(pikepdf, filters, 1) if isinstance(filters, pikepdf.Array) else [filters] if filters is not None else []
+    others = [it for it in _OTHER_PARAMETERS if stream.get(it) is not None]
+    return tuple(str(it)[1:33] for it in (*some, *others))
 
 
 def attachments_of(form: Form, budget: Budget) -> Iterator[Attachment]:
     """Gives the files that are attached, one at a time."""
-    for name, stream in form.attached:
+    for name, stream, filters in form.attached:
         octets = stream.read_raw_bytes()
         budget.take(len(octets))
-        filters = stream.get("/Filter", ())
-        some = [filters] if str(filters).startswith("/") else list(filters)
-        yield Attachment(name, octets, tuple(str(it)[1:33] for it in some))
+        yield Attachment(name, octets, filters)
 
 
 def _signatures_of(pikepdf: Any, pdf: Any) -> Iterator[FormSignature]:
@@ -171,15 +236,27 @@ def _signatures_of(pikepdf: Any, pdf: Any) -> Iterator[FormSignature]:
 
 
 def _values_of(pikepdf: Any, root: Any) -> Iterator[Tuple[str, Any, str]]:
-    """Gives the values of the fields with their names and why readers may differ on them, and the dictionaries that give permissions."""
+    """Gives the values of the fields with their names and why readers may differ on them, and the dictionaries that give permissions alone."""
+    known: Set[Tuple[int, int]] = set()
+    for name, value, note in _values_of_fields(pikepdf, root):
+        if isinstance(value, pikepdf.Dictionary) and value.is_indirect:
+            known.add(value.objgen)
+        yield name, value, note
     permissions = root.get("/Perms")
-    if isinstance(permissions, pikepdf.Dictionary):
-        yield from ((f"Perms {name[1:]}", permissions[name], "") for name in _PERMISSIONS if name in permissions)
+    for key in _PERMISSIONS if isinstance(permissions, pikepdf.Dictionary) else ():
+        value = permissions.get(key)
+        if isinstance(value, pikepdf.Dictionary) and value.objgen not in known:
+            yield f"Perms {key[1:]}", value, IN_NO_FIELD
+
+
+def _values_of_fields(pikepdf: Any, root: Any) -> Iterator[Tuple[str, Any, str]]:
     form = root.get("/AcroForm")
     left = [("", form.get("/Fields"), True)] if isinstance(form, pikepdf.Dictionary) else []
     seen: Set[Tuple[int, int]] = set()
     while left:
         above, fields, is_top = left.pop()
+        if isinstance(fields, pikepdf.Array) and len(fields) > MOST_FIELDS:
+            raise _TooMany(f"its form has more than {MOST_FIELDS:,} fields, so that not all of its signatures are known")
         for it in fields if isinstance(fields, pikepdf.Array) else ():
             if not isinstance(it, pikepdf.Dictionary) or it.is_indirect and it.objgen in seen:
                 continue
@@ -187,15 +264,18 @@ def _values_of(pikepdf: Any, root: Any) -> Iterator[Tuple[str, Any, str]]:
             if len(seen) > MOST_FIELDS:
                 raise _TooMany(f"its form has more than {MOST_FIELDS:,} fields, so that not all of its signatures are known")
             name = ".".join(filter(None, (above, str(it.get("/T", "")))))
+            value, kids = it.get("/V"), it.get("/Kids")
             is_known = it.get("/FT") == pikepdf.Name.Sig and (is_top or "/Parent" in it)
-            yield name, it.get("/V"), "" if is_known else _ODD_FIELD
-            left.append((name[:200], it.get("/Kids"), False))
+            yield name, value, _FIELD_WITH_KIDS if kids is not None else "" if is_known else _ODD_FIELD
+            left.append((name[:200], kids, False))
 
 
-def _oddities(value: Any, subfilter: Any, is_whole: bool) -> Iterator[str]:
+def _oddities(pikepdf: Any, value: Any, subfilter: Any, is_whole: bool) -> Iterator[str]:
     """Gives what readers differ on in the dictionary of a signature."""
     if not is_whole:
         yield "readers differ on numbers of the ByteRange that are no integers"
+    if value.get("/Type", pikepdf.Name.Sig) not in _TYPES:
+        yield "readers differ on a signature that says that it is of another type"
     if not value.is_indirect:
         yield "readers differ on a signature that is no object of its own"
     if str(subfilter) not in _SUBFILTERS:
@@ -214,5 +294,5 @@ def _signature_of(pikepdf: Any, name: str, value: Any, note: str) -> FormSignatu
         contents=bytes(contents) if isinstance(contents, pikepdf.String) else None,
         subfilter=str(subfilter)[1:65] if isinstance(subfilter, pikepdf.Name) else "without SubFilter",
         has_range=ranges is not None,
-        note="; ".join(filter(None, (note, *_oddities(value, subfilter, is_whole)))),
+        note="; ".join(filter(None, (note, *_oddities(pikepdf, value, subfilter, is_whole)))),
     )

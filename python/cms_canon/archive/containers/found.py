@@ -7,6 +7,8 @@ from dataclasses import dataclass
 from enum import Enum
 from typing import Any, Dict, Iterable, Iterator, NamedTuple, Optional, Set, Tuple, Union
 
+import cms_canon
+
 Octets = Union[bytes, memoryview]
 
 
@@ -58,6 +60,15 @@ class Pieces:
 
     def __reduce__(self) -> Tuple[Any, ...]:
         return Pieces, tuple(map(bytes, self._pieces))
+
+
+def is_message(octets: bytes) -> bool:
+    """Whether octets are a message that can be converted."""
+    try:
+        cms_canon.convert(octets)
+    except cms_canon.Refused:
+        return False
+    return True
 
 
 def digest_of(pieces: Iterable[Octets], algorithm: str) -> bytes:
@@ -123,7 +134,7 @@ class Found(NamedTuple):
 
 
 def numbered(found: Iterable[Found]) -> Iterator[Found]:
-    """Gives what is found, and a place that was given before with a number: no two have one place. Of each place are kept 64 bits."""
+    """Gives what is found, and a place that was given before with a number: no two have one place. It keeps 64 bits of each place."""
     given: Set[int] = set()
     again: Dict[int, int] = {}
     for it in found:

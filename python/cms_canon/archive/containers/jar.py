@@ -10,20 +10,22 @@ from functools import cached_property
 from typing import AbstractSet, Dict, FrozenSet, Iterable, Iterator, List, NamedTuple, Optional, Set, Tuple
 
 from .found import Class, Content, Found, Pieces, State
-from .manifests import Compared, Digest, Listed, algorithm_of, at_best, compared, weak_alone
+from .manifests import Compared, Digest, Listed, algorithm_of, at_best, compared, some_of, weak_alone
 from .sources import Budget, TooLarge
 
 FORM = "JAR"
 LONGEST_SECTION = 1 << 20  # octets of a section of a manifest
 MOST_LINES = 1000  # of a section of a manifest, of which a folded one counts once
 _BLOCK = re.compile(r"META-INF/([^/]+)\.(?:RSA|DSA|EC)\Z", re.I)
-_OF_A_SIGNATURE = re.compile(r"META-INF/(?:[^/]+\.(?:SF|RSA|DSA|EC)|SIG-[^/]*|MANIFEST\.MF)\Z", re.I)  # which no manifest lists
-_SECTION_END = re.compile(rb"(?:\r\n|\n|\r(?!\n)){2,}")
+_OF_A_SIGNATURE = re.compile(r"META-INF/(?:[^/]+\.(?:SF|RSA|DSA|EC)|SIG-[^/.]*(?:\.[A-Za-z0-9]{1,3})?|MANIFEST\.MF)\Z", re.I)  # which no manifest lists
+_SECTION_END = re.compile(rb"(?:\r\n|\n|\r(?!\n)){2}[\r\n]*")  # a group that is repeated without bounds would take 80 octets each time
 _FOLD = re.compile(rb"(?:\r\n|\n|\r(?!\n)) ")
 _LINE = re.compile(rb"\r\n|\n|\r")
 _DIGEST = re.compile(r"(?:(?P<algorithm>[A-Za-z0-9/-]+?)-Digest)(?P<what>-Manifest(?:-Main-Attributes)?)?\Z", re.I)
 _WHOLE, _MAIN = "-manifest", "-manifest-main-attributes"
 _APK_SCHEMES = "x-android-apk-signed"
+_NO_VERSION = "readers differ on a signature file whose Signature-Version is not 1.0"
+_VERSIONS = "META-INF/versions/"
 _Digests = Tuple[Tuple[Optional[str], bytes], ...]
 
 
@@ -42,7 +44,11 @@ class _Section(NamedTuple):
 
     @property
     def name(self) -> Optional[str]:
-        return next((value for key, value in self.attributes if key.lower() == "name"), None)
+        return self.value_of("name")
+
+    def value_of(self, name: str) -> Optional[str]:
+        """Returns the value of an attribute, by its name in small letters."""
+        return next((value for key, value in self.attributes if key.lower() == name), None)
 
     def digests(self, what: str) -> _Digests:
         """Returns the digests of what follows `-Digest` in the name of an attribute."""
@@ -112,13 +118,27 @@ def schemes_of(signature_file: bytes, limits: Limits) -> Set[int]:
     return {int(it) for value in values for it in value.split(",") if it.strip().isdecimal() and len(it) < 9} - {1}
 
 
+def is_of_version_1(signature_file: bytes, limits: Limits) -> bool:
+    """Whether Java takes a signature file for one."""
+    main = next(_sections_of(signature_file, limits), None)
+    return main is not None and (main.value_of("signature-version") or "").strip() == "1.0"
+
+
 class Manifest:
     """META-INF/MANIFEST.MF, which is taken apart once for all signature files."""
 
     def __init__(self, octets: bytes, limits: Limits) -> None:
         self.octets = octets
         self.limits = limits
+        self.is_odd = self.has_versions = False
         self._digests: Dict[str, bytes] = {}
+
+    def reasons(self, due: AbstractSet[str]) -> Iterator[str]:
+        """Gives what Java differs on from other readers, once the files that are listed were read."""
+        if self.is_odd:
+            yield "readers differ on a manifest with a section that does not begin with a name"
+        if self.has_versions and any(it.startswith(_VERSIONS) for it in due):
+            yield "readers differ on members for which there are others in META-INF/versions"
 
     def digest(self, algorithm: str) -> bytes:
         if algorithm not in self._digests:
@@ -140,8 +160,13 @@ class Manifest:
 
     @cached_property
     def listed(self) -> List[Listed]:
-        some = ((it.name, it.digests("")) for it in self._sections())
-        return [Listed(name, digests) for name, digests in some if name is not None and digests]
+        found = []
+        for number, it in enumerate(self._sections()):
+            self.is_odd |= number > 0 and bool(it.attributes) and it.attributes[0][0].lower() != "name"
+            self.has_versions |= number == 0 and (it.value_of("multi-release") or "").strip().lower() == "true"
+            if it.name is not None and (digests := it.digests("")):
+                found.append(Listed(it.name, digests))
+        return found
 
 
 class _Cover(NamedTuple):
@@ -149,6 +174,8 @@ class _Cover(NamedTuple):
 
     came: Compared
     names: Optional[FrozenSet[Optional[str]]] = None
+    named: FrozenSet[Optional[str]] = frozenset()
+    """The names that the signature file has, if it is for all sections: Java takes other files for unsigned."""
 
 
 def _fits(octets: Optional[bytes], digests: _Digests) -> Optional[bool]:
@@ -165,7 +192,7 @@ def _cover_of(signature: Iterator[_Section], manifest: Manifest) -> _Cover:
     wholes, main = (first.digests(what) if first else () for what in (_WHOLE, _MAIN))
     known = [(algorithm, digest) for algorithm, digest in wholes if algorithm]
     if known and all(manifest.digest(algorithm) == digest for algorithm, digest in known):
-        return _Cover(_noted(State.FITS, "", [wholes]))
+        return _Cover(_noted(State.FITS, "", [wholes]), named=frozenset(it.name for it in signature))
     some = [(it.name, it.digests("")) for it in signature]
     came = [_fits(manifest.by_name.get(name), digests) for name, digests in some]
     fits_main = _fits(manifest.main, main) if main else None
@@ -192,7 +219,11 @@ def compared_with_files(signature_file: bytes, manifest: Optional[Manifest], due
     if cover.came.bound is State.DIFFERS:
         return cover.came
     listed = manifest.listed if cover.names is None else [it for it in manifest.listed if it.name in cover.names]
-    return at_best(compared(listed, due, digest), *cover.came)
+    came = at_best(compared(listed, due, digest), *cover.came)
+    if cover.names is None and (unnamed := some_of(it.name for it in listed if it.name not in cover.named)):
+        came = at_best(came, State.FITS, f"readers differ on files that the signature file does not name: {unnamed}")
+    came = came if is_of_version_1(signature_file, manifest.limits) else at_best(came, State.FITS, _NO_VERSION)
+    return at_best(came, State.FITS, "; ".join(manifest.reasons(due)))
 
 
 def found_of(name: str, block: bytes, signature_name: str, signature_file: Optional[bytes], with_files: Optional[Compared]) -> Found:

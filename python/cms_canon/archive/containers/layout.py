@@ -7,18 +7,22 @@ and if there is one list with one end. An APK signing block, which lies before t
 
 from __future__ import annotations
 
+import re
 import stat
 import struct
 import zipfile
 import zlib
 from dataclasses import dataclass
+from itertools import chain, islice
+from operator import attrgetter
 from typing import BinaryIO, Dict, FrozenSet, Iterable, Iterator, NamedTuple, Sequence, Set, Tuple
 
-from .names import folded, path_of, paths_of
+from .names import folded, paths_in_zip
 from .sources import PIECE, Budget
 
 END_MAGIC, ENTRY_MAGIC, LOCAL_MAGIC = b"PK\5\6", b"PK\1\2", b"PK\3\4"
 LOCATORS = 76  # octets between the list of members and the end, if numbers have 64 bits
+MOST_OTHER_PATHS = 10_000  # of the members of one zip that are compared beside one of each
 _LONGEST_END = 65_600  # octets of the end with its comment
 _ALIGNED = 4096  # octets at whose multiples an APK signing block may begin
 _LONGEST_BLOCK = 16 << 20  # octets of an APK signing block
@@ -28,25 +32,26 @@ _END_64 = struct.Struct("<4sQ2H2L4Q")
 _LOCAL = struct.Struct("<4s5H3L2H")
 _ENTRY_OCTETS = 46
 _NONE, _NONE_64 = 0xFFFF, 0xFFFFFFFF  # in the place of a number that has 64 bits
-_ENCRYPTED, _DESCRIBED, _UTF_8 = 1, 8, 0x800
-_FLAGS = _ENCRYPTED | _DESCRIBED | 0x40 | _UTF_8 | 0x2000  # of these both headers of a member say the same
-_NUMBERS, _UNICODE_PATH = 1, 0x7075  # extra fields
+_DESCRIBED, _UTF_8 = 8, 0x800
+_FLAGS = 0xFFFF & ~6  # of these both headers of a member say the same; the others say how well it is packed
+_NUMBERS, _UNICODE_PATH, _OF_LIBARCHIVE = 1, 0x7075, 0x6C78  # extra fields; bsdtar takes the last for what kind of file a member is
 _APK_MAGIC = b"APK Sig Block 42"
 _APK_SCHEMES = {0x7109871A: 2, 0xF05368C0: 3, 0x1B93AD61: 3}  # by the numbers of their parts of the block
 _DOS_FOLDER = 0x10
+_ODD_IN_NAME = re.compile(r"[^ -9;-\x5b\x5d-~]|;[0-9]*\Z|\.\.|//|\A/|(?:\A|/)\.(?:/|\Z)")  # that is not one path of one spelling for all readers
 
 
 # ---- the end of the file
 
 
 class End(NamedTuple):
-    """What the end of a zip says: where it is, how many octets the list of members before it has, and how many octets follow it."""
+    """What the end of a zip says: its place, how many octets the list of members before it has, and how many octets follow it."""
 
     at: int
     octets: int
     after: int
     numbers: Tuple[int, ...] = ()
-    """Those of the end record: disks, members, octets of the list and where it begins."""
+    """Those of the end record: disks, members, and the octets and the place of the list."""
     tail: bytes = b""
     """The octets before the end record that may belong to it."""
 
@@ -132,19 +137,22 @@ class _Headers:
 
     def member(self, info: zipfile.ZipInfo) -> _Member:
         begin, raw = info.header_offset, _raw_name(info)
-        header = self.read(begin, _LOCAL.size)
+        header = self.read(begin, _LOCAL.size + len(raw) + len(info.extra))  # which are those of the list, as a rule
         if len(header) < _LOCAL.size or not header.startswith(LOCAL_MAGIC):
             return _Member(info, begin, begin, begin, "it has no header of its own")
-        _, _, flags, method, _, _, crc, packed, unpacked, name, extra = _LOCAL.unpack(header)
-        more = self.read(begin + _LOCAL.size, name + extra)
-        data = begin + _LOCAL.size + name + extra
-        has_64 = any(kind == _NUMBERS for kind, _ in _extras(more[name:]))
-        sizes = _with_64((unpacked, packed), more[name:])
-        known = (info.CRC, info.file_size, info.compress_size)
-        is_same = all(number == other or flags & _DESCRIBED and not number for number, other in zip((crc, *sizes), known))
-        is_same = is_same and (flags ^ info.flag_bits) & _FLAGS == 0 and method == info.compress_type and more[:name] == raw
-        is_same = is_same and not info.volume and _unicode_paths(more[name:]) <= _unicode_paths(info.extra) | {raw}
-        return _Member(info, begin, data, data + info.compress_size, "" if is_same else "its two headers differ", has_64)
+        _, _, flags, method, _, _, crc, packed, unpacked, name, extra = _LOCAL.unpack_from(header)
+        octets = _LOCAL.size + name + extra
+        if len(header) < octets:
+            header += self.read(begin + len(header), octets - len(header))
+        extras = header[_LOCAL.size + name : octets]
+        numbers = (crc, *(_with_64((unpacked, packed), extras) if extras else (unpacked, packed)))
+        is_same = _are_same(numbers, (info.CRC, info.file_size, info.compress_size), bool(flags & _DESCRIBED))
+        is_same = is_same and (flags ^ info.flag_bits) & _FLAGS == 0 and method == info.compress_type
+        is_same = is_same and not info.volume and header[_LOCAL.size : _LOCAL.size + name] == raw
+        is_same = is_same and (not extras or _unicode_paths(extras) <= _unicode_paths(info.extra) | {raw})
+        kinds = {kind for kind, _ in _extras(extras)}
+        odd = "" if is_same and _OF_LIBARCHIVE not in kinds else "its two headers differ"
+        return _Member(info, begin, begin + octets, begin + octets + info.compress_size, odd, _NUMBERS in kinds)
 
     def odd_end(self, member: _Member, following: int) -> str:
         """Returns why some readers may see another end of a member than that before what follows it; empty if none does."""
@@ -178,6 +186,11 @@ class _Headers:
             if inflater.eof:
                 return at + PIECE >= member.end and not inflater.unused_data
         return False
+
+
+def _are_same(numbers: Sequence[int], listed: Sequence[int], is_described: bool) -> bool:
+    """Whether the numbers in the header of a member are those of the list, or zero if a descriptor follows the member."""
+    return all(number == other or is_described and not number for number, other in zip(numbers, listed))
 
 
 def _is_descriptor(octets: bytes, info: zipfile.ZipInfo, has_64: bool) -> bool:
@@ -242,6 +255,19 @@ def _spellings(info: zipfile.ZipInfo) -> Set[str]:
     return {info.filename, *(it.decode("utf-8", "replace") for it in others)}
 
 
+def _is_plain(info: zipfile.ZipInfo) -> bool:
+    """Whether all readers have one name for a member, and one path."""
+    is_one = info.filename == info.orig_filename and not _ODD_IN_NAME.search(info.filename)
+    return is_one and not (info.extra and _unicode_paths(info.extra))
+
+
+def _paths_for(info: zipfile.ZipInfo) -> Set[str]:
+    """Returns where the names lead that readers have for a member."""
+    if _is_plain(info):
+        return {info.filename.rstrip("/")}
+    return {path for it in _spellings(info) for path in paths_in_zip(it)}
+
+
 def _other_kind(info: zipfile.ZipInfo) -> str:
     """Returns what a member is for some readers in place of a file; empty if it is a file, or a folder, for all."""
     kind = stat.S_IFMT(info.external_attr >> 16)
@@ -255,10 +281,13 @@ def _other_kind(info: zipfile.ZipInfo) -> str:
 def _odd_name(info: zipfile.ZipInfo) -> str:
     """Returns why some readers may have another name for a member; empty if none has."""
     name = info.filename
+    if _is_plain(info):
+        return ""
     if len(_spellings(info)) > 1 or "\0" in info.orig_filename:
         return "its name has other characters for some readers"
     path = name[:-1] if name.endswith("/") else name
-    return "" if path_of(name) == path and "\\" not in name else "some readers have another path for it"
+    is_one = paths_in_zip(name) == {path} and "\\" not in name and ":" not in name
+    return "" if is_one else "some readers have another path for it"
 
 
 class _Paths:
@@ -269,16 +298,22 @@ class _Paths:
         self._folded: Dict[str, zipfile.ZipInfo] = {}
         self.same: Set[str] = set()
         self.alike: Set[str] = set()
+        self.is_too_many = False
         folders: Set[str] = set()
+        others = 0
         for info in infos:
-            paths = {path for it in _spellings(info) for path in paths_of(it)}
+            paths = _paths_for(info)
+            others += len(paths) - 1
+            if others > MOST_OTHER_PATHS:
+                self.is_too_many = True
+                return
             if info.is_dir() and not info.file_size:
                 folders |= paths
                 continue
             for path in paths:
                 self._add(path, info)
         self.same |= {self._first[it].filename for it in self._first.keys() & folders}
-        self._add_through(sorted((it.replace("/", "\0") for it in self._first.keys() | folders)))
+        self._add_through(sorted(it.replace("/", "\0") for it in chain(self._first, folders)))
 
     def _add(self, path: str, info: zipfile.ZipInfo) -> None:
         if (other := self._first.setdefault(path, info)) is not info:
@@ -288,7 +323,7 @@ class _Paths:
 
     def _add_through(self, paths: Sequence[str]) -> None:
         """Adds the members that are folders of others: each path in a folder follows it if they are in order."""
-        for path, following in zip(paths, paths[1:]):
+        for path, following in zip(paths, islice(paths, 1, None)):
             if following.startswith(path + "\0") and (info := self._first.get(path.replace("\0", "/"))):
                 self.same.add(info.filename)
 
@@ -320,27 +355,28 @@ class Layout:
 
 def _odd_members(headers: _Headers, end: End, infos: Sequence[zipfile.ZipInfo]) -> Tuple[str, bytes]:
     """Returns why readers that do not follow the list of members see others, and the APK signing block."""
-    members = sorted(map(headers.member, infos), key=lambda it: it.begin)
-    block = _apk_block(headers, end, members)
-    if headers.has_header(0, members[0].begin if members else end.list_begin):
+    in_order = sorted(infos, key=attrgetter("header_offset"))
+    last_end = headers.member(in_order[-1]).end if in_order else 0
+    block = _apk_block(headers, end, last_end) if in_order else b""
+    if headers.has_header(0, in_order[0].header_offset if in_order else end.list_begin):
         return "what lies before its first member", block
     begin = end.list_begin - len(block)
-    if block and 0 < begin - members[-1].end < _ALIGNED and not any(headers.read(members[-1].end, begin - members[-1].end)):
-        begin = members[-1].end  # apksigner writes zeros before the block
-    following = [it.begin for it in members[1:]] + [begin]
-    for member, begin in zip(members, following):
+    if block and 0 < begin - last_end < _ALIGNED and not any(headers.read(last_end, begin - last_end)):
+        begin = last_end  # apksigner writes zeros before the block
+    following = chain((it.header_offset for it in islice(in_order, 1, None)), (begin,))
+    for member, begin in zip(map(headers.member, in_order), following):
         if odd := member.odd or headers.odd_end(member, begin):
             return f"{member.info.filename}: {odd}", block
     return "", block
 
 
-def _apk_block(headers: _Headers, end: End, members: Sequence[_Member]) -> bytes:
-    """Returns the APK signing block before the list of members; nothing if there is none."""
+def _apk_block(headers: _Headers, end: End, last_end: int) -> bytes:
+    """Returns the APK signing block between the end of the last member and the list of members; nothing if there is none."""
     foot = headers.read(end.list_begin - 24, 24)
-    if not members or not foot.endswith(_APK_MAGIC):
+    if not foot.endswith(_APK_MAGIC):
         return b""
     octets = struct.unpack_from("<Q", foot)[0] + 8
-    if not 32 <= octets <= min(end.list_begin - members[-1].end, _LONGEST_BLOCK):
+    if not 32 <= octets <= min(end.list_begin - last_end, _LONGEST_BLOCK):
         return b""
     block = headers.read(end.list_begin - octets, octets)
     return block if _is_apk_block(block) else b""
@@ -352,6 +388,8 @@ def layout_of(file: BinaryIO, end: End, infos: Sequence[zipfile.ZipInfo], budget
     odd, block = _odd_members(headers, end, infos)
     whole = "its list of members" if _odd_end(headers, end, infos) else odd
     paths = _Paths(infos)
+    if paths.is_too_many:
+        return Layout(f"more than {MOST_OTHER_PATHS:,} names of its members", {}, {}, block)
     same = {name: "two members have one name" for name in paths.same}
     for info in infos:
         if kind := _other_kind(info):

@@ -22,7 +22,7 @@ from typing import BinaryIO, Callable, Iterator, List, NamedTuple, Optional, Tup
 import cms_canon
 
 from .found import Class, Content, Found, Octets, Pieces, State
-from .sources import MOST_IN_MEMORY, PIECE, TEXT, Budget, Source, TooLarge, in_memory
+from .sources import MOST_IN_MEMORY, PIECE, Budget, Source, TooLarge, in_memory
 
 Search = Callable[[Source], Iterator[Found]]
 
@@ -32,6 +32,7 @@ _CMS_TYPES = {
 }
 _OTHERS = "other parts are not covered"
 _WITH_LF = "it was signed as it is, with LF at the ends of lines: readers differ on that"
+_WITHOUT_QUOTE = "it was signed without > before From at the beginning of a line: readers differ on that"
 _DIFFERS = (7, 9)  # the findings that say that the content is another one, or is not there
 _OPENPGP_TYPES = {"application/pgp-signature"}
 _DEEPEST_PART = 20  # parts inside one another
@@ -45,12 +46,20 @@ _MAIL = re.compile(rb"(?:from|to|date|subject|received|return-path|delivered-to|
 _FIRST_HEADER = re.compile(rb"[!-9;-~]+[ \t]*:")
 _NO_HEADER = re.compile(rb"^(?![!-9;-~]+:|[ \t]|\r?$|\Z)", re.M)  # a line that is none, nor the rest of one
 _LONE_CR = re.compile(rb"\r(?!\n)")
-_PARAMETER = r';\s*([\w.-]+(?:\*\d*)?\*?)=(?:"[^"\\\r\n]*"|[^\s;"()<>@,:/\[\]?=\\]+)\s*'
-_PLAIN_TYPE = re.compile(rf"\s*[\w.+-]+/[\w.+-]+\s*(?:{_PARAMETER})*(?:;\s*)?\Z", re.A)
+_CONTROL = re.compile(rb"[\0-\x08\x0b\x0c\x0e-\x1f\x7f]")
+_LINE_BLANKS = r"[ \t\r\n]*"
+_PARAMETER = rf';{_LINE_BLANKS}([\w.-]+(?:\*\d*)?\*?)=(?:"[^"\\\r\n]*"|[^\s;"()<>@,:/\[\]?=\\]+){_LINE_BLANKS}'
+_PLAIN_TYPE = re.compile(rf"{_LINE_BLANKS}[\w.+-]+/[\w.+-]+{_LINE_BLANKS}(?:{_PARAMETER})*(?:;{_LINE_BLANKS})?\Z", re.A)
+_BOUNDARY = re.compile(r';[ \t\r\n]*boundary=("[^"]*"|[^\s;"]*)', re.I)
+_PLAIN_BOUNDARY = re.compile(r'"?[\w()+,./:=?-](?:[\w()+,./:=? -]*[\w()+,./:=?-])?"?\Z', re.A)  # without apostrophes, which Python takes for nothing
 _NAMES_OF_PARAMETERS = re.compile(_PARAMETER, re.A)
 _QUOTED_OR_COMMENT = re.compile(r'"(?:[^"\\]|\\.)*"|\((?:[^()\\]|\\.)*\)', re.S)
 _DEEPEST_COMMENT = 3  # inside one another
 _QUOTED_PAIR = re.compile(r"\\(.)", re.S)
+_ODD_QUOTED = re.compile(rb"[ \t]\r?$|=(?![0-9A-F]{2}|\r?\n)|\r(?!\n)", re.M)
+_MOST_TYPES = 20  # headers that say what a part is
+_FROM = re.compile(rb"^From ", re.M)
+_ARMOUR = b"\n-----BEGIN "
 _ALPHABET = re.compile(rb"[A-Za-z0-9+/\s]*(?:=\s*){0,2}\Z")
 _MOST_HEADERS = 1 << 20  # octets before a header that mails have
 _QUOTED_FROM = re.compile(rb"^>(>*From )", re.M)
@@ -99,13 +108,13 @@ def _begun(octets: bytes) -> bytes:
 
 
 def is_mail(head: bytes) -> bool:
-    """Whether a file that begins so is a mail: its headers are text, the first is one, and one of them is one that mails have."""
+    """Whether a file that begins so is a mail: the first line is a header, and one of them is one that mails have."""
     head = _begun(head)
     if not _FIRST_HEADER.match(head):
         return False
     end = _END_OF_HEADERS.search(head)
     headers = head[: end.start()] if end else head
-    return not headers.translate(None, TEXT + b"\0") and any(map(_MAIL.match, headers.split(b"\n")))
+    return any(map(_MAIL.match, headers.split(b"\n")))
 
 
 def is_mail_further(source: Source) -> bool:
@@ -116,7 +125,7 @@ def is_mail_further(source: Source) -> bool:
 
 
 def _headers_in(head: bytes) -> List[bytes]:
-    """Returns the headers that say what the content is. Raises `_Damaged` if one is too long, or two say it differently."""
+    """Returns the headers that say what the content is. Raises `_Damaged` if one is too long, two say it differently, or there are too many."""
     wanted: List[bytes] = []
     said = {}
     for it in _HEADER.finditer(head):
@@ -126,20 +135,28 @@ def _headers_in(head: bytes) -> List[bytes]:
         value = b"".join(it[0].partition(b":")[2].split())
         if said.setdefault(it[1].lower(), value) != value:
             raise _Damaged("two headers say differently what the content is")
-        if len(wanted) == 20:
-            break
+        if len(wanted) > _MOST_TYPES:
+            raise _Damaged(f"more than {_MOST_TYPES} headers say what the content is")
     return wanted
+
+
+def _of_headers(head: bytes) -> Iterator[str]:
+    """Gives what readers differ on among headers."""
+    if _NO_HEADER.search(head) or head.startswith((b" ", b"\t")):
+        yield "readers differ on a line among the headers that is none"
+    if _LONE_CR.search(head):
+        yield "readers differ on a lone CR among the headers"
+    if _CONTROL.search(head):
+        yield "readers differ on a control character among the headers"
 
 
 def _part_of(octets: bytes, usual: str = "text/plain") -> _Part:
     """Returns what the headers say of a part, which without them is of the usual type, and its body."""
     end = _END_OF_HEADERS.search(octets)
     head, body = (octets[: end.end()], octets[end.end() :]) if end else (octets, b"")
-    notes = []
-    if _NO_HEADER.search(head):
-        notes.append("readers differ on a line among the headers that is none")
-    if _LONE_CR.search(head):
-        notes.append("readers differ on a lone CR among the headers")
+    notes = list(_of_headers(head))
+    if (at := head.find(_ARMOUR)) >= 0:  # of a text that is no mail, for other readers
+        head, body = octets[:at], octets[at + 1 :]
     wanted = _headers_in(head)
     if not wanted:
         return _Part(_NO_HEADERS, usual, None, tuple(notes), body)
@@ -155,8 +172,9 @@ def _part_of(octets: bytes, usual: str = "text/plain") -> _Part:
 
 
 def is_plain_type(text: str) -> bool:
-    """Whether all readers take a Content-Type as the same: without comments, and with no two parameters of one name."""
-    if not _PLAIN_TYPE.match(text):
+    """Whether all readers take a Content-Type as the same: without comments and encoded words, with a boundary as RFC 2046 has it, and with no two
+    parameters of one name."""
+    if not _PLAIN_TYPE.match(text) or "=?" in text or not all(map(_PLAIN_BOUNDARY.match, _BOUNDARY.findall(text))):
         return False
     names = [it.lower().partition("*") for it in _NAMES_OF_PARAMETERS.findall(text, text.index("/"))]
     whole = [name + (star and "*") for name, star, _ in names if not star or name == "boundary"]
@@ -186,6 +204,8 @@ def _of_coding(part: _Part) -> str:
     """Returns what readers differ on in the encoding of a message."""
     if part.coding == "base64" and not _ALPHABET.match(part.body):
         return "readers differ on characters that are not of base64"
+    if part.coding == "quoted-printable" and _ODD_QUOTED.search(part.body):
+        return "readers differ on characters of quoted-printable"
     is_known = part.coding in ("7bit", "8bit", "binary", "base64", "quoted-printable")
     return "" if is_known else "readers differ on Content-Transfer-Encoding"
 
@@ -197,6 +217,8 @@ def _of_delimiters(part: _Part, boundary: bytes) -> Iterator[str]:
     delimiter = re.escape(b"--" + boundary)
     if re.search(rb"\r" + delimiter + rb"|" + delimiter + rb"(?:--)?[ \t]*\r(?!\n)", part.body):
         yield "readers differ on a lone CR beside a boundary"
+    if re.search(rb"(?:\A|\n)" + delimiter + rb"(?!(?:--)?[ \t]*\r?(?:\n|\Z))", part.body):
+        yield "readers differ on a line that begins as a boundary"
 
 
 def _delimiters_in(body: bytes, boundary: bytes) -> Iterator[Tuple[int, int, bool]]:
@@ -225,6 +247,15 @@ def _parts_in(body: bytes, boundary: bytes, budget: Budget) -> Iterator[bytes]:
         yield body[begin:]
 
 
+def _lines_in(octets: bytes) -> Iterator[bytes]:
+    """Gives octets in pieces of many whole lines, as what replaces something in a piece may take many times its memory."""
+    begin = 0
+    while begin < len(octets):
+        end = octets.find(b"\n", begin + PIECE) + 1 or len(octets)
+        yield octets[begin:end]
+        begin = end
+
+
 class _CanonicalLines:
     """Octets with CRLF at the end of each line, as they are signed (RFC 8551, section 3.1.1)."""
 
@@ -237,7 +268,11 @@ class _CanonicalLines:
         return b"\n" not in self._octets.replace(b"\r\n", b"")
 
     def __iter__(self) -> Iterator[Octets]:
-        yield self._octets if self.is_same else _LINE_END.sub(b"\r\n", self._octets)
+        if self.is_same:
+            yield self._octets
+            return
+        for piece in _lines_in(self._octets):
+            yield piece.replace(b"\r\n", b"\n").replace(b"\n", b"\r\n")
 
 
 class Mail:
@@ -249,7 +284,9 @@ class Mail:
 
     def found(self, octets: bytes) -> Iterator[Found]:
         """Gives what is signed in these octets, which are a mail."""
-        yield from self._in_part("", _begun(octets), 0, _Around())
+        begun = _begun(octets)
+        notes = ("readers differ on what lies before the first header",) if len(begun) < len(octets) else ()
+        yield from self._in_part("", begun, 0, _Around(notes=notes))
 
     def _in_part(self, where: str, octets: bytes, depth: int, around: _Around, usual: str = "text/plain") -> Iterator[Found]:
         """Gives what is signed in a part, or why it cannot be taken apart. `usual` is what it is if it does not say it."""
@@ -275,7 +312,7 @@ class Mail:
             yield from self._in_part(f"{where}/mail" if where else "mail", _decoded(part), depth + 1, around)
         elif part.kind.startswith("multipart/"):
             yield from self._in_parts(where, part, depth, around)
-        elif _filename(part) or part.kind in ("application/pdf", "application/zip", "application/octet-stream"):
+        else:
             yield from self._in_attachment(where, part, around)
 
     def _in_attachment(self, where: str, part: _Part, around: _Around) -> Iterator[Found]:
@@ -396,14 +433,15 @@ def in_mbox(source: Source, search: Search) -> Iterator[Found]:
     """Gives what is signed in the mails of an mbox. A line that begins with `>From ` may have been signed without the `>`."""
     for number, octets in enumerate(_mails_in(source.begun(), source.budget), 1):
         source.budget.take_member()
+        note = "readers differ on a line that begins with From" if _FROM.search(octets) else ""
         for it in _in_one_of_a_box(Mail(source, search), _without_last_line(octets)):
-            yield it.within(f"mail {number}")
+            yield (it.noted(note) if it.what is Class.MESSAGE else it).within(f"mail {number}")
 
 
 def _in_one_of_a_box(mail: Mail, octets: bytes) -> Iterator[Found]:
     """Gives what is signed in a mail as it is, or as it was before `>` was put before `From `, if that is what was signed."""
-    unquoted = _QUOTED_FROM.sub(rb"\1", octets)
+    unquoted = b"".join(_QUOTED_FROM.sub(rb"\1", it) for it in _lines_in(octets))
     others = mail.found(unquoted) if unquoted != octets else iter(())
     for it in mail.found(octets):
         other = next(others, None)
-        yield other if other and not _fits(it) and _fits(other) else it
+        yield other.noted(_WITHOUT_QUOTE) if other and not _fits(it) and _fits(other) else it

@@ -60,7 +60,7 @@ def at_best(came: Compared, most: State, note: str) -> Compared:
 
 def not_covered(names: Iterable[str]) -> Compared:
     """Returns what is to be said of files that nothing covers."""
-    some = _some(names)
+    some = some_of(names)
     return Compared(State.PARTLY, f"files that no manifest covers: {some}") if some else Compared(State.FITS, "")
 
 
@@ -70,7 +70,8 @@ def said_of(reasons: Dict[str, str]) -> str:
     return "".join(first) + (f", and on {more:,} more" if more > 0 else "")
 
 
-def _some(names: Iterable[str]) -> str:
+def some_of(names: Iterable[str]) -> str:
+    """Returns the first of some names, and how many there are more; empty for none."""
     some = sorted(names)
     return ", ".join(some[:NAMED]) + (f" and {len(some) - NAMED:,} more" if len(some) > NAMED else "")
 
@@ -98,7 +99,7 @@ def _compared_files(listed: Sequence[Listed], there: AbstractSet[str], digest: D
         elif not known:
             unknown.append(it.name)
     if differs:
-        return Compared(State.DIFFERS, f"files that do not fit the manifest: {_some(differs)}")
+        return Compared(State.DIFFERS, f"files that do not fit the manifest: {some_of(differs)}")
     if unknown:
-        return Compared(State.NOT_COMPARED, f"files whose digest algorithms are not known: {_some(unknown)}")
+        return Compared(State.NOT_COMPARED, f"files whose digest algorithms are not known: {some_of(unknown)}")
     return not_covered(left)

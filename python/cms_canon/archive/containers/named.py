@@ -6,9 +6,7 @@ import re
 import struct
 from typing import Dict, Optional
 
-import cms_canon
-
-from .found import Class, Found
+from .found import Class, Found, is_message
 from .sources import Source
 
 _OPENPGP_ENDINGS = (".sig", ".gpg", ".pgp", ".asc")
@@ -70,7 +68,7 @@ def in_asn_1(source: Source) -> Optional[Found]:
     if _TIME_STAMPED_DATA.match(source.head):
         return Found("", "TimeStampedData", Class.OTHER, source.size)
     begin = _EVIDENCE_RECORD.match(source.head)
-    is_record = begin and not _is_imprint(source.head, begin.end()) and _is_refused(source.octets())
+    is_record = begin and not _is_imprint(source.head, begin.end()) and not is_message(source.octets())
     return Found("", "evidence record", Class.OTHER, source.size) if is_record else None
 
 
@@ -80,14 +78,6 @@ def _is_imprint(octets: bytes, at: int) -> bool:
     more = length & 0x7F if length & 0x80 else 0
     after = at + 2 + more + (int.from_bytes(octets[at + 2 : at + 2 + more], "big") if more else length)
     return octets[after : after + 1] in (b"\x04", b"\x24")
-
-
-def _is_refused(octets: bytes) -> bool:
-    try:
-        cms_canon.convert(octets)
-    except cms_canon.Refused:
-        return True
-    return False
 
 
 def archive(source: Source) -> Optional[Found]:

@@ -8,7 +8,6 @@ must not end the index of ten million.
 from __future__ import annotations
 
 import bz2
-import gzip
 import io
 import lzma
 import re
@@ -29,6 +28,7 @@ Search = Callable[[Source], Iterator[Found]]
 
 LONGEST_HEADER = 1 << 20  # octets of a name, or of other values, in the header of a tar, which tarfile reads as a whole
 MOST_WAITING = 64 << 20  # octets of messages of a tar whose contents are looked for in a second pass
+_PACKED = 8192  # octets that are unpacked at once: what follows the end of a stream is copied
 _BLOCK = 512  # octets in which a tar is written
 _TIMES_A_HEADER = 16  # its octets count as so many that are read, as it takes so much longer
 _KEPT = {"path", "linkpath", "size", "charset", "hdrcharset"}  # of what a header says of all members
@@ -68,10 +68,74 @@ def _zstandard(file: BinaryIO) -> Any:
     return zstandard.ZstdDecompressor(max_window_size=1 << 27).stream_reader(file, read_across_frames=True, closefd=False)
 
 
+class _Gunzip:
+    """Unpacks a stream of gzip, and is called as `bz2.BZ2Decompressor` is."""
+
+    def __init__(self) -> None:
+        self._unpack = zlib.decompressobj(16 + zlib.MAX_WBITS)
+
+    @property
+    def eof(self) -> bool:
+        return self._unpack.eof
+
+    @property
+    def needs_input(self) -> bool:
+        return not self._unpack.unconsumed_tail
+
+    @property
+    def unused_data(self) -> bytes:
+        return self._unpack.unused_data
+
+    def decompress(self, octets: bytes, most: int) -> bytes:
+        return self._unpack.decompress(self._unpack.unconsumed_tail + octets, most)
+
+
+class _Streams(io.RawIOBase):
+    """Packed streams one right after another, as they are unpacked. Zeros may follow the last one. Whatever else does not begin a stream is damage:
+    some readers stop there, and others look for a further stream. Raises `Damaged` for that, and `EOFError` if a stream has no end."""
+
+    def __init__(self, file: BinaryIO, magic: bytes, begin: Callable[[], Any]) -> None:
+        self._file = file
+        self._magic = magic
+        self._begin = begin
+        self._unpacker = begin()
+        self._ahead = b""
+
+    def read(self, size: int = -1) -> bytes:
+        most = PIECE if size < 0 else min(size, PIECE)
+        while most and (not self._unpacker.eof or self._goes_on()):
+            needs_input = self._unpacker.needs_input
+            packed = (self._ahead or self._file.read(_PACKED)) if needs_input else b""
+            self._ahead = b"" if needs_input else self._ahead
+            if octets := self._unpacker.decompress(packed, most):
+                return octets
+            if needs_input and not packed and not self._unpacker.eof:
+                raise EOFError("Compressed file ended before the end-of-stream marker was reached")
+        return b""
+
+    def _goes_on(self) -> bool:
+        """Begins the next stream, if one follows."""
+        rest = self._unpacker.unused_data or self._ahead
+        while len(rest) < len(self._magic) and (more := self._file.read(_PACKED)):
+            rest += more
+        if rest.startswith(self._magic):
+            self._unpacker, self._ahead = self._begin(), rest
+            return True
+        self._ahead = b""
+        while rest.count(0) == len(rest):
+            if not (rest := self._file.read(_PACKED)):
+                return False
+        raise Damaged("no further packed stream follows the octets that are packed, but something else")
+
+
+def _streams(magic: bytes, begin: Callable[[], Any]) -> Callable[[BinaryIO], Any]:
+    return lambda file: _Streams(file, magic, begin)
+
+
 PACKINGS = (
-    Packing("gzip", b"\x1f\x8b", {".tgz": ".tar", ".gz": ""}, lambda file: gzip.GzipFile(fileobj=file)),
-    Packing("bzip2", b"BZh", {".tbz2": ".tar", ".tbz": ".tar", ".bz2": ""}, bz2.BZ2File),
-    Packing("xz", b"\xfd7zXZ\0", {".txz": ".tar", ".xz": ""}, lzma.LZMAFile),
+    Packing("gzip", b"\x1f\x8b", {".tgz": ".tar", ".gz": ""}, _streams(b"\x1f\x8b", _Gunzip)),
+    Packing("bzip2", b"BZh", {".tbz2": ".tar", ".tbz": ".tar", ".bz2": ""}, _streams(b"BZh", bz2.BZ2Decompressor)),
+    Packing("xz", b"\xfd7zXZ\0", {".txz": ".tar", ".xz": ""}, _streams(b"\xfd7zXZ\0", lzma.LZMADecompressor)),
     Packing("Zstandard", b"\x28\xb5\x2f\xfd", {".tzst": ".tar", ".zst": ""}, _zstandard),
 )
 
@@ -185,6 +249,8 @@ class _Header(tarfile.TarInfo):
     """A header of a tar that takes no more memory and time than it may, and on which readers may differ if it is odd."""
 
     is_odd = False
+    own_size = 0
+    """Octets of the member, as this header says, whatever a header before it says."""
     before: bytes = b""
     """The kinds of the headers with values that lie before it."""
 
@@ -193,6 +259,7 @@ class _Header(tarfile.TarInfo):
         """Returns the same as `tarfile` does: in a third of the time, if the header is written as all programs write those of files."""
         header = cls._frombuf(buf, encoding, errors)
         header.is_odd = is_odd(buf)
+        header.own_size = header.size
         return header
 
     @classmethod
@@ -224,7 +291,7 @@ class _Header(tarfile.TarInfo):
         member: Any = super()._proc_member(file)
         if member is not self:
             member.before += self.type
-            member.is_odd |= self.is_odd or member.before not in _HEADERS_BEFORE or not suit(self.type, values, member)
+            member.is_odd |= self.is_odd or member.before not in _HEADERS_BEFORE or not suit(self.type, values, member, member.own_size)
         return member
 
     def _proc_gnusparse_10(self, *_) -> None:

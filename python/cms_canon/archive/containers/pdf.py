@@ -16,8 +16,8 @@ from typing import Callable, Dict, Iterator, List, NamedTuple, Optional, Sequenc
 
 import cms_canon
 
-from .forms import Form, FormSignature, attachments_of, form_of
-from .found import Class, Content, Found, Pieces, State, digest_of
+from .forms import IN_NO_FIELD, MOST_OBJECTS, Form, FormSignature, attachments_of, form_of
+from .found import Class, Content, Found, Pieces, State, digest_of, is_message
 from .sources import PIECE, Budget, Source, TooLarge
 
 Search = Callable[[Source], Iterator[Found]]
@@ -35,12 +35,11 @@ _TRAILING = 18  # the reason of E18
 _SHA1_INSIDE = "adbe.pkcs7.sha1"
 _NO_CMS = "adbe.x509.rsa_sha1"
 _NOT_CONTENTS = "the ByteRange leaves out something else than /Contents"
-_IN_NO_FIELD = "no field of the form has this signature, so that readers do not show it"
 _OTHER_CONTENTS = "a field of the form has another /Contents for this ByteRange, so that readers differ"
 
 
 def _hole(octets: bytes, begin: int, end: int) -> Optional[bytes]:
-    """Returns what stands in hexadecimal digits, and nothing else, in these octets; None if it is not so."""
+    """Returns what these octets hold in hexadecimal digits; None if they hold anything else."""
     if octets[begin : begin + 1] != b"<" or octets[end - 1 : end] != b">":
         return None
     digits = octets[begin + 1 : end - 1].translate(None, _BLANKS)
@@ -73,7 +72,7 @@ def _subfilter(octets: bytes, range_at: int, range_end: int, begin: int, end: in
 
 
 class _Range(NamedTuple):
-    """A ByteRange: where it begins, the hole that it leaves out, where what it covers ends, and where it stands itself."""
+    """A ByteRange: the beginning of what it covers, the hole that it leaves out, the end of what it covers, and its own place."""
 
     first: int
     begin: int
@@ -162,14 +161,6 @@ def _bound_of(octets: bytes, it: _Range) -> Tuple[State, str]:
     return (State.EARLIER if is_revision and is_covered else State.NO_REVISION), note
 
 
-def _is_message(octets: bytes) -> bool:
-    try:
-        cms_canon.convert(octets)
-    except cms_canon.Refused:
-        return False
-    return True
-
-
 class _Pdf:
     """A PDF that is searched, and its form."""
 
@@ -193,7 +184,7 @@ class _Pdf:
         if self.form.why_unsure:
             return self.form.why_unsure
         if it.of_form is None:
-            return _IN_NO_FIELD
+            return IN_NO_FIELD
         return it.of_form.note if it.of_form.contents == padded else _OTHER_CONTENTS
 
     @property
@@ -204,7 +195,7 @@ class _Pdf:
     def signature(self, where: str, it: _Range, message: bytes, more: str) -> Found:
         """Returns a signature, of which more is to be said, with what it covers."""
         name = self.subfilter(it)
-        if name == _NO_CMS and not _is_message(message):
+        if name == _NO_CMS and not is_message(message):
             return Found(where, f"PDF {name}", Class.OTHER, len(message), note="a signature of PKCS #1")
         view = memoryview(self.octets)
         pieces = Pieces(view[it.first : it.begin], view[it.end : it.last])
@@ -264,6 +255,8 @@ def _in_attachments(source: Source, form: Form, search: Search) -> Iterator[Foun
             yield from _in_attachment(place, search(source.inner(it.name, file, 0 if it.filters else len(it.octets))))
         except zlib.error as why:
             yield Found(place, "PDF", Class.DAMAGED, len(it.octets), note=str(why))
+    if form.has_others:
+        yield Found("attachments", "PDF", Class.NOT_LOOKED_INTO, 0, note=f"files that are attached to pages: it has more than {MOST_OBJECTS:,} objects")
 
 
 def _in_attachment(place: str, found: Iterator[Found]) -> Iterator[Found]:

@@ -1,6 +1,6 @@
 """Which members of a tar are not what is there once it is unpacked: a later member of the same name replaces an earlier one, whatever it is.
 
-Of each member 64 bits of its name are kept.
+64 bits of the name of each member are kept.
 """
 
 from __future__ import annotations
@@ -46,6 +46,8 @@ class Replaced:
         """The paths to which the paths of hard links lead."""
         self._keys, self._folded = array("Q"), array("Q")
         self._links: Dict[str, str] = {}
+        self._odd_links: Dict[str, str] = {}
+        self._begins: Dict[str, int] = {}  # how many keys there are before each hard link
         self._folders: Set[str] = set()
         self._same: Set[int] = set()
         self._alike: Set[int] = set()
@@ -77,6 +79,9 @@ class Replaced:
         if member.islnk():
             self.hard_links.setdefault(target, []).append(member.name)
             self.targets[path] = target
+            self._begins[path] = len(self._keys)
+            if member.linkname[2 if member.linkname.startswith("./") else 0 :] != target:
+                self._odd_links[path] = "it is a hard link whose target has another path for some readers"
 
     def _add_through(self, path: str) -> None:
         """Doubts the tar if a member lies below a link, and so elsewhere."""
@@ -95,7 +100,19 @@ class Replaced:
         """Compares all names. A link whose name comes again may be written through."""
         self._same, self._alike = _repeated(self._keys), _repeated(self._folded)
         self._same |= {_key(target) for path, target in self._links.items() if _key(path) in self._same}
+        self._add_early_links()
         self._keys, self._folded = array("Q"), array("Q")
+
+    def _add_early_links(self) -> None:
+        """Adds the hard links before their targets, which most readers cannot make."""
+        wanted = set(map(_key, self.hard_links))
+        places: Dict[int, int] = {}
+        for at, key in enumerate(self._keys if wanted else ()):
+            if key in wanted:
+                places.setdefault(key, at)
+        for path, begin in self._begins.items():
+            if places.get(_key(self.targets[path]), begin) >= begin:
+                self._odd_links[path] = "it is a hard link before its target"
 
     def reason(self, name: str) -> str:
         """Returns why readers may differ on a member, or on what it leads to; empty if they do not."""
@@ -105,6 +122,8 @@ class Replaced:
         some = {*paths_of(name), self.targets.get(path, path)}
         if any(_key(it) in self._same for it in some):
             return "another member has its name"
+        if path in self._odd_links:
+            return self._odd_links[path]
         if any(_key(folded(it)) in self._alike for it in some):
             return "on some file systems another member has its name"
         return "" if path == name[2 if name.startswith("./") else 0 :] else "some readers have another path for it"

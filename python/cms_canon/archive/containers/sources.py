@@ -19,6 +19,8 @@ FREE = 1 << 30  # octets that may be read of any file, unpacked, and so many tim
 TIMES_THE_SIZE = 64
 MOST_MEMBERS = 500_000  # of any file, with those of members inside it, and so many more as it has times so many octets
 OCTETS_OF_A_MEMBER = 128
+MOST_SMALL = 30_000  # members of the zips in any file that have so many members that these have fewer octets than this:
+OCTETS_OF_A_SMALL_MEMBER = 512  # with both headers, since each member takes some 50 microseconds
 MOST_PARTS = 100_000  # sections, lines and elements of the manifests in any file, and likewise
 OCTETS_OF_A_PART = 8
 DEEPEST = 4  # packed files inside one another
@@ -45,6 +47,7 @@ class Budget:
         """Makes the budget of a file with so many octets."""
         self._most = self._octets = FREE + TIMES_THE_SIZE * size
         self._most_members = self._members = MOST_MEMBERS + size // OCTETS_OF_A_MEMBER
+        self._small = MOST_SMALL
         self._most_parts = self._parts = MOST_PARTS + size // OCTETS_OF_A_PART
 
     def take(self, octets: int) -> None:
@@ -59,6 +62,12 @@ class Budget:
         if self._members < 0:
             raise TooMuch(f"it has more than {self._most_members:,} members")
 
+    def take_zip(self, members: int, octets: int) -> None:
+        """Takes the members of a zip of so many octets, if they are small. Raises `TooLarge` if too few of these are left."""
+        self._small -= members if members * OCTETS_OF_A_SMALL_MEMBER > octets else 0
+        if self._small < 0:
+            raise TooLarge(f"the file has more than {MOST_SMALL:,} members of zips with less than {OCTETS_OF_A_SMALL_MEMBER} octets each")
+
     def take_parts(self, parts: int) -> None:
         """Takes so many sections, lines or elements of manifests. Raises `TooMuch` if they are not left."""
         self._parts -= parts
@@ -67,14 +76,13 @@ class Budget:
 
     def read(self, file: BinaryIO, most: int) -> bytes:
         """Reads the rest of a file, of at most so many octets, by pieces. Raises `TooLarge` if there are more."""
-        pieces, octets = [], 0
-        while piece := file.read(min(PIECE, most + 1 - octets)):
+        whole = io.BytesIO()  # which hands over its octets without a copy
+        while piece := file.read(min(PIECE, most + 1 - whole.tell())):
             self.take(len(piece))
-            octets += len(piece)
-            if octets > most:
+            whole.write(piece)
+            if whole.tell() > most:
                 raise TooLarge(f"it has more than {MOST_IN_MEMORY - 1:,} octets")
-            pieces.append(piece)
-        return b"".join(pieces)
+        return whole.getvalue()
 
 
 class Source:

@@ -11,6 +11,7 @@ _WITHOUT_OCTETS = (*LINKS, tarfile.DIRTYPE, tarfile.CHRTYPE, tarfile.BLKTYPE, ta
 _LONG = (tarfile.GNUTYPE_LONGNAME, tarfile.GNUTYPE_LONGLINK)
 _OF_ALL = tarfile.XGLTYPE
 _NUMBER = re.compile(rb"[ 0]*[0-7]*[ \0]*")
+_WITHOUT_ROOM = 8**11  # octets of a member of which its own header cannot say the size in octal digits
 _LARGE = 0x80  # how a number in base 256 begins
 _PREFIX = slice(345, 500)
 _POSIX, _GNU, _OLD = b"ustar\x0000", b"ustar  \0", bytes(8)
@@ -77,11 +78,16 @@ def _names_of(kind: bytes, octets: bytes) -> Dict[str, bytes]:
     return found
 
 
-def suit(kind: bytes, octets: bytes, member: tarfile.TarInfo) -> bool:
-    """Whether what a header of this kind says is usual for the member that follows it: only folders end in a slash, and only files have a size."""
+def suit(kind: bytes, octets: bytes, member: tarfile.TarInfo, own_size: int) -> bool:
+    """Whether what a header of this kind says is usual for the member that follows it: only folders end in a slash, and only files have a size, which
+    is the one that their own header says, if this has room for it."""
     said = _names_of(kind, octets)
     is_named_well = member.isdir() or not said.get("path", b"").endswith(b"/")
-    return is_named_well and (member.type not in _WITHOUT_OCTETS or not said.get("size", b"").strip(b"0"))
+    if not (size := said.get("size", b"")).isdigit():
+        return is_named_well
+    if member.type in _WITHOUT_OCTETS:
+        return is_named_well and not int(size)
+    return is_named_well and (int(size) == own_size or int(size) >= _WITHOUT_ROOM)
 
 
 def are_odd_values(kind: bytes, octets: bytes) -> bool:

@@ -24,7 +24,7 @@ Search = Callable[[Source], Iterator[Found]]
 ENDINGS = (".zip", ".jar", ".war", ".apk", ".xpi", ".asics", ".asice", ".scs", ".sce")
 MAGICS = (b"PK\3\4", b"PK\5\6")
 MOST_IN_DIRECTORY = 128 << 20  # octets of the list of members, which is read at once
-MOST_IN_ZIP = 250_000  # members of one zip, for each of which zipfile makes an object
+MOST_IN_ZIP = 80_000  # members of one zip, for each of which zipfile makes an object
 MOST_OF_A_BLOCK = 1 << 20  # octets before the list of members in which it is looked for which schemes of APK there are
 MOST_SIGNATURES = 1000  # of one JAR or ASiC container that are compared with its members
 MOST_SECTIONS = 1000  # of a manifest of a JAR, and two more for each member
@@ -33,6 +33,8 @@ _META_INF = "META-INF/"
 _WITH_MEANING = (_META_INF, "ANDROIDMANIFEST.XML")
 _OOXML = re.compile(r"_xmlsignatures/[^/]+\.xml\Z", re.I)
 _ODF = "META-INF/documentsignatures.xml"
+_PACKAGE_SIGNATURE = ".signature.p7s"  # of a NuGet package
+_OF_PACKAGE = "readers differ on what .signature.p7s covers: it holds a digest of the package, which is not compared"
 NO_NAME = "(no name)"
 _UTF_8 = 0x800  # of the flags of a member: its name is in UTF-8
 _OCTETS_OF_AN_ENTRY = 46  # without its name and what follows it
@@ -44,28 +46,41 @@ def is_zip(source: Source) -> bool:
     return source.head[:4] in MAGICS or source.name.lower().endswith(ENDINGS)
 
 
-def _refuse_many(file: BinaryIO, end: End, budget: Budget) -> None:
-    """Raises `TooLarge` if a zip has more members than zipfile may make objects for. How many it says that it has is not believed."""
+def _refuse_many(file: BinaryIO, end: End, source: Source) -> None:
+    """Raises `TooLarge` if a zip has more members than zipfile may make objects for, or too many small ones. How many it says that it has is not
+    believed."""
     if end.octets > MOST_IN_DIRECTORY:
         raise TooLarge(f"its list of members has more than {MOST_IN_DIRECTORY:,} octets")
     begin = max(0, end.at - end.octets - LOCATORS)
-    budget.take(end.at - begin)
+    source.budget.take(end.at - begin)
     file.seek(begin)
-    if file.read(end.at - begin).count(ENTRY_MAGIC) > MOST_IN_ZIP:
+    members = file.read(end.at - begin).count(ENTRY_MAGIC)
+    if members > MOST_IN_ZIP:
         raise TooLarge(f"it has more than {MOST_IN_ZIP:,} members")
+    source.budget.take_zip(members, source.size)
 
 
 class _Unpacked(io.RawIOBase):
-    """A member as it is unpacked. zipfile takes the end of the packed octets for the end of the member; other readers want the mark of its end."""
+    """A member as it is unpacked. zipfile takes the end of the packed octets for the end of the member; other readers want the mark of its end, as many
+    octets as the headers say, and nothing after them. Raises `Damaged` if it is not so."""
 
-    def __init__(self, member: IO[bytes]) -> None:
+    def __init__(self, member: IO[bytes], octets: int) -> None:
         self._member = member
+        self._left = octets
 
     def read(self, size: int = -1) -> bytes:
         octets = self._member.read(size)
-        if not octets and size and not getattr(getattr(self._member, "_decompressor", None), "eof", True):
-            raise Damaged("its packed octets have no end")
+        self._left -= len(octets)
+        if not octets and size:
+            self._end()
         return octets
+
+    def _end(self) -> None:
+        unpacker = getattr(self._member, "_decompressor", None)
+        if not getattr(unpacker, "eof", True):
+            raise Damaged("its packed octets have no end")
+        if self._left or getattr(unpacker, "unused_data", b"") or getattr(self._member, "_compress_left", 0):
+            raise Damaged("it has not as many octets as its headers say")
 
     def close(self) -> None:
         self._member.close()
@@ -77,7 +92,7 @@ class _Zip:
     def __init__(self, source: Source, file: zipfile.ZipFile, end: End) -> None:
         self.source = source
         self.file = file
-        self.infos = {it.filename: it for it in file.infolist()}  # of equal names the last, as Java has it
+        self.infos = file.NameToInfo  # of equal names the last, as Java has it
         self._by_capitals = {capitals: name for name in self.infos if (capitals := name.upper()).startswith(_WITH_MEANING)}
         self._digests: Dict[str, Dict[str, bytes]] = {}
         self._signatures = 0
@@ -145,7 +160,7 @@ class _Zip:
         chance to see one octet more, of which the check sum then is another."""
         info.file_size += 1
         try:
-            return _Unpacked(self.file.open(info))
+            return _Unpacked(self.file.open(info), info.file_size - 1)
         finally:
             info.file_size -= 1
 
@@ -222,10 +237,12 @@ def in_zip(source: Source, search: Search) -> Iterator[Found]:
     """Gives what is signed in a zip, and what its members are; last the zip itself, with what kind of file it is."""
     file = source.begun()
     end = end_of(file)
-    _refuse_many(file, end, source.budget)
+    _refuse_many(file, end, source)
     with _opened(source, file, end) as opened:
+        opened.NameToInfo.pop("", None)
         for nameless in (it for it in opened.infolist() if not it.filename):
             nameless.filename = NO_NAME  # or zipfile would look for its last character
+            opened.NameToInfo[NO_NAME] = nameless
         whole = _Zip(source, opened, end)
         manifests = _manifests_of(whole)
         for info in opened.infolist():
@@ -313,14 +330,14 @@ def _in_unsigning(whole: _Zip, name: str, info: zipfile.ZipInfo, search: Search)
 
 
 def _in_other(whole: _Zip, name: str, info: zipfile.ZipInfo, search: Search) -> Iterator[Found]:
-    """Gives what another member is. Of what is signed as one file, only members in which there is something are said."""
+    """Gives what another member is. If the zip is signed as one file, only members in which there is something are said."""
     is_said = whole.form == "zip"
     with whole.opened(info) as member:
         for it in search(whole.source.inner(name, member, info.file_size)):
             if it.wants:
                 it = it.with_content(_content_for(whole, plain(it.wants)))
             if it.what is Class.MESSAGE:
-                it = it.noted(whole.reason(name))
+                it = it.noted(whole.reason(name), _OF_PACKAGE if name == _PACKAGE_SIGNATURE else "")
             if is_said or it.what not in (Class.TEXT, Class.NO_CANDIDATE):
                 yield it.within(name)
 
