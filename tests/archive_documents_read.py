@@ -53,6 +53,8 @@ class Odd(NamedTuple):
     """What else lies before the table of objects."""
     swap: Tuple[bytes, bytes] = (b"", b"")
     """What is replaced after that table, and by what."""
+    table: Tuple[bytes, bytes] = (b"", b"")
+    """What is replaced in it, and by what."""
 
 
 PLAIN = Odd()
@@ -107,6 +109,11 @@ ODDITIES: Dict[str, Odd] = {
     "a kid that is another field": Odd(others=((101, b"<< /Parent 100 0 R /T (k) /FT /Tx /V (x) >>"),), field=b" /FT /Sig /Kids [101 0 R]"),
     "a kid that is a widget": Odd(others=((101, b"<< /Parent 100 0 R /Type /Annot /Subtype /Widget /Rect [0 0 0 0] >>"),), field=b" /FT /Sig /Kids [101 0 R]"),
     "another type": Odd(type=b"/Foo"),
+    "a blank in the table": Odd(table=(b"00000 n \n3 1", b"00000\x0bn \n3 1")),
+    "a letter in the table": Odd(table=(b" n \n3 1", b" nu\n3 1")),
+    "another place in the table": Odd(extra=b"7 0 obj\n<< >>\nendobj\n", table=(b"3 1\n", b"7 1\n0000000009 00000 n \n3 1\n")),
+    "a line before the trailer": Odd(swap=(b"trailer", b"\ntrailer")),
+    "a later table": Odd(extra=b"7 0 obj\n<< >>\nendobj\n"),
 }
 
 
@@ -129,7 +136,8 @@ def laid_out(odd: Odd) -> bytes:
         octets += b"%d 0 obj\n%s\nendobj\n" % (number, body.replace(b"%HOLE%", b"<" + b"0" * odd.digits + b">"))
     octets += odd.extra
     table = len(octets)
-    octets += b"xref\n0 1\n0000000000 65535 f \n" + b"".join(b"%d 1\n%010d 00000 n \n" % it for it in sorted(places.items()))
+    entries = b"xref\n0 1\n0000000000 65535 f \n" + b"".join(b"%d 1\n%010d 00000 n \n" % it for it in sorted(places.items()))
+    octets += entries.replace(*odd.table) if odd.table[0] else entries
     end = b"trailer\n<< /Size 200 /Root 1 0 R >>\nstartxref\n%d\n%%%%EOF\n" % table
     return bytes(octets) + (end.replace(*odd.swap) if odd.swap[0] else end)
 
@@ -206,6 +214,9 @@ PDFS_SAID: Dict[str, Tuple[str, str]] = {  # the state or the class, and the not
     "a comment before the last number": (FITS, "how the PDF ends"), "a sign before the last number": (FITS, "how the PDF ends"),
     "startxref in a comment": (FITS, "how the PDF ends"), "startxref far from the end": (FITS, "how the PDF ends"),
     "a generation": (FITS, "generation"), "a generation after a comment": (FITS, "generation"), "a hybrid file": (FITS, "two tables"),
+    "a blank in the table": (FITS, "table of objects"), "a letter in the table": (FITS, "table of objects"),
+    "another place in the table": (FITS, "table of objects"), "a later table": (FITS, ""),
+    "a line before the trailer": (FITS, ""),
     "permissions alone": (FITS, "no field of the form"), "permissions of a field": (FITS, ""),
     "a kid that is another field": (FITS, "below it"), "a kid that is a widget": (FITS, "below it"), "another type": (FITS, "of another type"),
     "octets after": ("fits an earlier revision", "octets follow"), "six numbers": ("damaged", "has 6 numbers"),

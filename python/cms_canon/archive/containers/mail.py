@@ -236,7 +236,7 @@ def _parts_in(body: bytes, boundary: bytes, budget: Budget) -> Iterator[bytes]:
     """Gives the octets between two delimiter lines. Two of them may share a line end."""
     begin = None
     for end, after, is_last in _delimiters_in(body, boundary):
-        budget.take_member()
+        budget.take_mail()
         if begin is not None:
             yield body[begin : max(begin, end)]
         if is_last:
@@ -432,7 +432,7 @@ def _fits(found: Found) -> bool:
 def in_mbox(source: Source, search: Search) -> Iterator[Found]:
     """Gives what is signed in the mails of an mbox. A line that begins with `>From ` may have been signed without the `>`."""
     for number, octets in enumerate(_mails_in(source.begun(), source.budget), 1):
-        source.budget.take_member()
+        source.budget.take_mail()
         note = "readers differ on a line that begins with From" if _FROM.search(octets) else ""
         for it in _in_one_of_a_box(Mail(source, search), _without_last_line(octets)):
             yield (it.noted(note) if it.what is Class.MESSAGE else it).within(f"mail {number}")

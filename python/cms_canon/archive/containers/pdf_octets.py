@@ -5,16 +5,24 @@ from __future__ import annotations
 import re
 from typing import Iterator, List, NamedTuple, Optional
 
+MOST_TABLES = 200  # of objects, one for each revision
 _LAST = 1024  # octets at the end in which all readers look for the place of the table of objects
 _FARTHER = 64  # octets before these in which some look too
 _NEAR = 1024  # octets before the name of a kind of stream in which the number of its object is looked for
 _LONGEST_NUMBERS = 64  # octets of the two numbers of an object
 _BLANK = rb"[\0\t\n\f\r ]"
 _AFTER = rb"(?=[\0\t\n\f\r <>\[\]()/%+.0-9-]|\Z)"
-_END = re.compile(rb"startxref[ ]*(?:\r\n|\r|\n)[0-9]+[ ]*(?:\r\n|\r|\n)%%EOF[\0\t\n\f\r ]*\Z")
+_END = re.compile(rb"startxref[ ]*(?:\r\n|\r|\n)([0-9]{1,12})[ ]*(?:\r\n|\r|\n)%%EOF[\0\t\n\f\r ]*\Z")
 _OBJECT = re.compile(rb"(?<=[\0\t\n\f\r ])obj" + _AFTER)
 _FIRST_GENERATION = re.compile(rb"(?<![0-9])[0-9]+" + _BLANK + rb"+0+" + _BLANK + rb"+obj" + _AFTER)
 _NUMBERS = re.compile(rb"(?<![0-9])([0-9]{1,10})" + _BLANK + rb"+0+" + _BLANK + rb"+\Z")
+
+
+_TABLE = re.compile(rb"xref[ ]*(?:\r\n|\r|\n)")
+_PART = re.compile(rb"([0-9]{1,10}) ([0-9]{1,10})[ ]*(?:\r\n|\r|\n)")
+_ENTRY = re.compile(rb"([0-9]{10}) ([0-9]{5}) (?:(n)|f)(?: \r| \n|\r\n)")
+_ENTRY_OCTETS = 20
+_TRAILER = re.compile(_BLANK + rb"{0,8}trailer")
 
 
 def _spelt(name: str) -> bytes:
@@ -22,6 +30,7 @@ def _spelt(name: str) -> bytes:
     return b"".join(b"(?:%c|#(?i:%02x))" % (it, it) for it in name.encode())
 
 
+_BEFORE = re.compile(b"/%s%s*([0-9]{1,12})" % (_spelt("Prev"), _BLANK))
 _NAMES = re.compile(b"/(?:(?P<hybrid>%s)|(?P<packed>%s)|(?P<files>%s))%s" % (_spelt("XRefStm"), _spelt("ObjStm"), _spelt("EF"), _AFTER))
 
 
@@ -59,6 +68,45 @@ def _number_before(octets: bytes, at: int) -> Optional[int]:
     return int(numbers[1]) if numbers else None
 
 
+def _places(octets: bytes) -> Iterator[int]:
+    """Gives where the tables of objects begin, the last first, as far as they lead to one another; -1 if there are more than are looked at."""
+    last = _END.search(octets, max(0, len(octets) - _LAST))
+    at = int(last[1]) if last else -1
+    seen = {-1}
+    while at not in seen:
+        seen.add(at)
+        yield at if len(seen) <= MOST_TABLES else -1
+        if len(seen) > MOST_TABLES:
+            return
+        before = _BEFORE.search(octets, at, max(at, octets.find(b"startxref", at)))
+        at = int(before[1]) if before else -1
+
+
+def _is_odd_table(octets: bytes, at: int) -> bool:
+    """Whether a table of objects that begins there is one which some readers may not take as it is. Tables in streams are not looked into."""
+    if at < 0:
+        return True
+    begin = _TABLE.match(octets, at)
+    if begin is None:
+        return not _FIRST_GENERATION.match(octets, at)
+    at = begin.end()
+    while not _TRAILER.match(octets, at):
+        part = _PART.match(octets, at)
+        if part is None:
+            return True
+        first, count = int(part[1]), int(part[2])
+        at = part.end() + _ENTRY_OCTETS * count
+        if at > len(octets) or not all(_is_entry(octets, part.end() + _ENTRY_OCTETS * it, first + it) for it in range(count)):
+            return True
+    return False
+
+
+def _is_entry(octets: bytes, at: int, number: int) -> bool:
+    """Whether an entry of a table is written as it has to be, and the object is there."""
+    entry = _ENTRY.match(octets, at)
+    return entry is not None and (entry[3] is None or octets.startswith(b"%d %d obj" % (number, int(entry[2])), int(entry[1])))
+
+
 def _is_odd_end(octets: bytes) -> bool:
     """Whether some readers may find another table of objects than the last, or none."""
     begin = octets.rfind(b"startxref", max(0, len(octets) - _LAST))
@@ -77,5 +125,7 @@ def oddities_of(octets: bytes, named: Named) -> Iterator[str]:
         yield "readers differ on how the PDF ends"
     if _has_generations(octets):
         yield "readers differ on objects with a generation"
+    if any(_is_odd_table(octets, it) for it in _places(octets)):
+        yield "readers differ on the table of objects"
     if named.is_hybrid:
         yield "readers differ on a PDF with two tables of objects"

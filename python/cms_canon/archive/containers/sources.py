@@ -19,8 +19,10 @@ FREE = 1 << 30  # octets that may be read of any file, unpacked, and so many tim
 TIMES_THE_SIZE = 64
 MOST_MEMBERS = 500_000  # of any file, with those of members inside it, and so many more as it has times so many octets
 OCTETS_OF_A_MEMBER = 128
-MOST_SMALL = 30_000  # members of the zips in any file that have so many members that these have fewer octets than this:
+MOST_SMALL = 20_000  # members of the zips in any file that have so many members that these have fewer octets than this:
 OCTETS_OF_A_SMALL_MEMBER = 512  # with both headers, since each member takes some 50 microseconds
+MOST_SMALL_MAILS = 20_000  # mails, and parts of mails, in any file, and one more for so many octets, since each takes some 80 microseconds:
+OCTETS_OF_A_SMALL_MAIL = 512
 MOST_PARTS = 100_000  # sections, lines and elements of the manifests in any file, and likewise
 OCTETS_OF_A_PART = 8
 DEEPEST = 4  # packed files inside one another
@@ -48,6 +50,7 @@ class Budget:
         self._most = self._octets = FREE + TIMES_THE_SIZE * size
         self._most_members = self._members = MOST_MEMBERS + size // OCTETS_OF_A_MEMBER
         self._small = MOST_SMALL
+        self._most_mails = self._mails = MOST_SMALL_MAILS + size // OCTETS_OF_A_SMALL_MAIL
         self._most_parts = self._parts = MOST_PARTS + size // OCTETS_OF_A_PART
 
     def take(self, octets: int) -> None:
@@ -67,6 +70,12 @@ class Budget:
         self._small -= members if members * OCTETS_OF_A_SMALL_MEMBER > octets else 0
         if self._small < 0:
             raise TooLarge(f"the file has more than {MOST_SMALL:,} members of zips with less than {OCTETS_OF_A_SMALL_MEMBER} octets each")
+
+    def take_mail(self) -> None:
+        """Takes one mail or part of a mail. Raises `TooMuch` if none is left."""
+        self._mails -= 1
+        if self._mails < 0:
+            raise TooMuch(f"it has more than {self._most_mails:,} mails and parts of them")
 
     def take_parts(self, parts: int) -> None:
         """Takes so many sections, lines or elements of manifests. Raises `TooMuch` if they are not left."""
