@@ -16,9 +16,10 @@ import subprocess
 import sys
 import zlib
 from email.policy import compat32, default
+from io import BytesIO
 from pathlib import Path
 from random import Random
-from typing import Callable, Dict, List, NamedTuple, Set, Tuple
+from typing import Callable, Dict, List, NamedTuple, Sequence, Set, Tuple
 
 from archive import SECONDS, TOP, count, count_if, count_same, judged_in_a_copy, modules_of, tally
 from archive_containers import DIFFERS, FITS, PARTLY, Case, Maker, said_of, write
@@ -112,6 +113,7 @@ ODDITIES: Dict[str, Odd] = {
     "a blank in the table": Odd(table=(b"00000 n \n3 1", b"00000\x0bn \n3 1")),
     "a letter in the table": Odd(table=(b" n \n3 1", b" nu\n3 1")),
     "another place in the table": Odd(extra=b"7 0 obj\n<< >>\nendobj\n", table=(b"3 1\n", b"7 1\n0000000009 00000 n \n3 1\n")),
+    "an object twice in the table": Odd(table=(b"xref\n0 1\n", b"xref\n1 1\n")),
     "a line before the trailer": Odd(swap=(b"trailer", b"\ntrailer")),
     "a later table": Odd(extra=b"7 0 obj\n<< >>\nendobj\n"),
 }
@@ -216,6 +218,7 @@ PDFS_SAID: Dict[str, Tuple[str, str]] = {  # the state or the class, and the not
     "a generation": (FITS, "generation"), "a generation after a comment": (FITS, "generation"), "a hybrid file": (FITS, "two tables"),
     "a blank in the table": (FITS, "table of objects"), "a letter in the table": (FITS, "table of objects"),
     "another place in the table": (FITS, "table of objects"), "a later table": (FITS, ""),
+    "an object twice in the table": (FITS, "table of objects"),
     "a line before the trailer": (FITS, ""),
     "permissions alone": (FITS, "no field of the form"), "permissions of a field": (FITS, ""),
     "a kid that is another field": (FITS, "below it"), "a kid that is a widget": (FITS, "below it"), "another type": (FITS, "of another type"),
@@ -232,17 +235,22 @@ def judge_odd_pdfs(archive, folder: Path, make) -> None:
         count_if(f"PDF with {name}", is_so, came, facts[where].note)
 
 
-def in_an_object_stream(catalogs: List[bytes], sign: Callable[[bytes], bytes]) -> bytes:
-    """Returns a signed PDF in which an object stream has these catalogs, all of one number."""
+Entries = Sequence[Tuple[int, Tuple[int, int, int]]]
+
+
+def in_an_object_stream(objects: List[Tuple[int, bytes]], sign: Callable[[bytes], bytes], entries: Entries = ()) -> bytes:
+    """Returns a signed PDF in which an object stream has these objects, by their numbers. `entries` are the objects of which its table says something
+    else, with that."""
     octets, places = bytearray(b"%PDF-1.7\n"), {}
-    head = b"".join(b"1 %d " % sum(len(it) + 1 for it in catalogs[:number]) for number in range(len(catalogs)))
-    data = head + b" ".join(catalogs)
-    stream = b"<< /Type /ObjStm /N %d /First %d /Length %d >>\nstream\n%s\nendstream" % (len(catalogs), len(head), len(data), data)
+    head = b"".join(b"%d %d " % (it[0], sum(len(before) + 1 for _, before in objects[:at])) for at, it in enumerate(objects))
+    data = head + b" ".join(it for _, it in objects)
+    stream = b"<< /Type /ObjStm /N %d /First %d /Length %d >>\nstream\n%s\nendstream" % (len(objects), len(head), len(data), data)
     for number, body in sorted({**objects_of(PLAIN), 1: b"null", 40: stream}.items()):
         places[number] = len(octets)
         octets += b"%d 0 obj\n%s\nendobj\n" % (number, body.replace(b"%RANGE%", b" " * ROOM).replace(b"%HOLE%", b"<" + b"0" * HOLE + b">"))
     places[150] = len(octets)
-    rows = b"".join(struct.pack(">BIH", 1, place, 0) if number != 1 else struct.pack(">BIH", 2, 40, 0) for number, place in sorted(places.items()))
+    fields = {**{number: (1, place, 0) for number, place in places.items()}, 1: (2, 40, 0), **dict(entries)}
+    rows = b"".join(struct.pack(">BIH", *fields[number]) for number in sorted(places))
     index = b" ".join(b"%d 1" % it for it in sorted(places))
     octets += b"150 0 obj\n<< /Type /XRef /Size 200 /Root 1 0 R /W [1 4 2] /Index [%s] /Length %d >>\nstream\n%s\nendstream\nendobj\n" % (
         index, len(rows), rows)
@@ -257,11 +265,39 @@ def in_an_object_stream(catalogs: List[bytes], sign: Callable[[bytes], bytes]) -
 
 def judge_object_streams(archive, folder: Path, make) -> None:
     """A number that an object stream has twice is another object for some readers."""
-    real, other = objects_of(PLAIN)[1], b"<< /Type /Catalog /Pages 2 0 R >>"
-    for name, catalogs, words in (("once", [real], ""), ("twice", [other, real], "an object stream")):
-        _, facts = said_of(archive, write(folder, f"{name}.pdf", Case(in_an_object_stream(catalogs, make.cms), "")))
+    real, other, damaged = (1, objects_of(PLAIN)[1]), (1, b"<< /Type /Catalog /Pages 2 0 R >>"), (20, b"<< \x8cCount > >>")
+    for name, objects, words in (("once", [real], ""), ("twice", [other, real], "an object stream"), ("beside one not used", [real, damaged], "table")):
+        _, facts = said_of(archive, write(folder, f"{name}.pdf", Case(in_an_object_stream(objects, make.cms), "")))
         first = next(iter(facts.values()))
         count_if(f"a catalog {name} in an object stream", first.state == FITS and (words in first.note if words else not first.note), first.note)
+
+
+TABLES: Dict[str, Entries] = {  # in a stream, which lead to something else than the object
+    "an index past the end of an object stream": [(1, (2, 40, 7))], "a page that is elsewhere": [(3, (1, 9, 0))], "an object of an unknown kind": [(3, (3, 0, 0))],
+    "an object in a stream that is none": [(3, (2, 10, 0))], "another generation": [(3, (1, 9, 1))],
+}
+
+
+def judge_tables_in_streams(archive, folder: Path, make) -> None:
+    """What a table in a stream says of any object is compared with what is there."""
+    for name, entries in TABLES.items():
+        octets = in_an_object_stream([(1, objects_of(PLAIN)[1])], make.cms, entries)
+        _, facts = said_of(archive, write(folder, f"{name}.pdf", Case(octets, "")))
+        notes = [it.note for it in facts.values()]
+        count_if(f"a table in a stream with {name}", notes and all(notes), notes)
+
+
+def judge_saved_pdfs(archive, make) -> None:
+    """What a usual program writes has no note: object streams and tables in streams, also in the order in which they are loaded."""
+    import pikepdf
+
+    for name, options in (("object streams", {}), ("in order", {"linearize": True})):
+        saved = BytesIO()
+        with pikepdf.open(BytesIO(signed(PLAIN, make.cms))) as pdf:
+            pdf.save(saved, object_stream_mode=pikepdf.ObjectStreamMode.generate, **options)
+        octets = saved.getvalue()
+        form = archive.forms.form_of(octets, archive.sources.Budget(len(octets)))
+        count_if(f"a PDF that qpdf writes with {name}", b"/ObjStm" in octets and form.signatures and not form.why_unsure, form.why_unsure)
 
 
 ATTACHED_SAID = {  # the class of the attachment a.p7m, or the state of the message that it is
@@ -572,7 +608,7 @@ def judge_mails(archive, folder: Path, make, random: Random, number: int) -> Non
 
 
 def judge_copy(home: Path) -> None:
-    inner = (f"containers.{it}" for it in ("files", "found", "mail", "sources"))
+    inner = (f"containers.{it}" for it in ("files", "forms", "found", "mail", "sources"))
     archive = modules_of(home, "judging", *inner)
     given = [int(it) for it in sys.argv[1:4]]
     pdfs, mails, seed = [*given, *[PDFS, MAILS, SEED][len(given) :]]
@@ -580,6 +616,8 @@ def judge_copy(home: Path) -> None:
     if tally.has_package("pikepdf"):
         judge_odd_pdfs(archive, home / "odd", make)
         judge_object_streams(archive, home / "odd", make)
+        judge_tables_in_streams(archive, home / "odd", make)
+        judge_saved_pdfs(archive, make)
         judge_attachments(archive, home / "odd", make)
         judge_pdfs(archive, home / "pdfs", make, random, pdfs)
     judge_odd_mails(archive, home / "odd", make)

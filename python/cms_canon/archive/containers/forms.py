@@ -14,12 +14,12 @@ from io import BytesIO
 from itertools import chain
 from typing import Any, Iterable, Iterator, List, NamedTuple, Optional, Sequence, Set, Tuple
 
-from .pdf_octets import Named, has_files, named_in, oddities_of
+from .pdf_octets import named_in, oddities_of
+from .pdf_tables import MOST_PACKED, TooMany, packed_in
 from .sources import Budget
 
 MOST_FIELDS = 3_000  # of one form that are read: the parser takes a third of a millisecond for each
 MOST_ATTACHED = 1_000  # files
-MOST_PACKED = 3_000  # object streams
 MOST_OBJECTS = 20_000  # that are looked at for files which are attached to pages
 MEMORY = 64 << 20  # octets that the parser may take
 _PAGE = resource.getpagesize()
@@ -30,7 +30,6 @@ _SUBFILTERS = tuple(f"/{it}" for it in ("adbe.pkcs7.detached", "adbe.pkcs7.sha1"
 _TYPES = ("/Sig", "/DocTimeStamp")
 _OTHER_PARAMETERS = ("/DecodeParms", "/DP", "/F", "/FFilter", "/FDecodeParms")  # by which a stream is unpacked in another way, or is elsewhere
 IN_NO_FIELD = "no field of the form has this signature, so that readers do not show it"
-_PACKED_TWICE = "readers differ on an object stream in which two objects have one number"
 _HARMLESS = "reported number of objects"  # of a warning: which no reader believes
 _PERMISSIONS = ("/DocMDP", "/UR3", "/UR")
 
@@ -48,10 +47,6 @@ class FormSignature:
     has_range: bool = True
     note: str = ""
     """Why readers may differ on it."""
-
-
-class _TooMany(Exception):
-    """A PDF has more of something than is read."""
 
 
 class Form(NamedTuple):
@@ -115,42 +110,17 @@ def form_of(octets: bytes, budget: Budget) -> Form:
             for it in _signatures_of(pikepdf, pdf):
                 budget.take_member()
                 signatures.append(it)
-            packed = _packed_in(pikepdf, pdf, named, budget)
+            packed = packed_in(pikepdf, pdf, octets, named, budget)
             has_others = packed.has_files and len(pdf.objects) > MOST_OBJECTS
             attached = list(_attached_to(pikepdf, pdf, budget, packed.has_files and not has_others))
             why = _DAMAGED if any(_HARMLESS not in str(it) for it in pdf.get_warnings()) else packed.why_unsure
-        except _TooMany as too_many:
+        except TooMany as too_many:
             why = str(too_many)
         except pikepdf.PasswordError:
             why = "which signatures its form has is not known: that needs a password"
         except (pikepdf.PdfError, AttributeError, KeyError, TypeError, ValueError, RuntimeError, ArithmeticError, MemoryError):
             why = _DAMAGED
     return Form(signatures, "; ".join(filter(None, (why, *oddities_of(octets, named)))), attached, pdf, has_others)
-
-
-class _Packed(NamedTuple):
-    """Why readers may find other objects in object streams, and whether something in the PDF may have embedded files."""
-
-    why_unsure: str
-    has_files: bool
-
-
-def _packed_in(pikepdf: Any, pdf: Any, named: Named, budget: Budget) -> _Packed:
-    """Returns what is to be said of the object streams. Raises `_TooMany` if there are more than are read."""
-    if len(named.packed) > MOST_PACKED:
-        raise _TooMany(f"it has more than {MOST_PACKED:,} object streams, so that not all of its signatures are known")
-    is_twice, files = None in named.packed, named.has_files
-    for number in (it for it in named.packed if it is not None):
-        stream = pdf.get_object(number, 0)
-        if not isinstance(stream, pikepdf.Stream):
-            is_twice |= isinstance(stream, pikepdf.Name)  # the type of a stream that is not known
-            continue
-        octets = stream.read_bytes()
-        budget.take(len(octets))
-        numbers = octets[: int(stream.get("/First", 0))].split()[::2]
-        is_twice |= len(set(map(int, numbers))) != len(numbers)
-        files = files or has_files(octets)
-    return _Packed(_PACKED_TWICE if is_twice else "", files)
 
 
 def _attached_to(pikepdf: Any, pdf: Any, budget: Budget, has_files: bool) -> Iterator[Tuple[str, Any, Tuple[str, ...]]]:
@@ -186,21 +156,21 @@ def _named_in(pikepdf: Any, root: Any, budget: Budget) -> List[Any]:
         left += _some(pikepdf, node.get("/Kids"), 1)
         specifications += _some(pikepdf, node.get("/Names"), 2)[1::2]
         if len(specifications) + count + len(left) > MOST_ATTACHED:
-            raise _TooMany(f"it has more than {MOST_ATTACHED:,} files attached, so that not all of them are looked into")
+            raise TooMany(f"it has more than {MOST_ATTACHED:,} files attached, so that not all of them are looked into")
     return specifications
 
 
 def _some(pikepdf: Any, array: Any, most: int) -> List[Any]:
-    """Returns what is in an array; nothing if it is none. Raises `_TooMany` if it has more members than so many for each file."""
+    """Returns what is in an array; nothing if it is none. Raises `TooMany` if it has more members than so many for each file."""
     if not isinstance(array, pikepdf.Array):
         return []
     if len(array) > most * MOST_ATTACHED:
-        raise _TooMany(f"it has more than {MOST_ATTACHED:,} files attached, so that not all of them are looked into")
+        raise TooMany(f"it has more than {MOST_ATTACHED:,} files attached, so that not all of them are looked into")
     return list(array)
 
 
 def _streams_of(pikepdf: Any, specifications: Iterable[Any]) -> Iterator[Tuple[str, Any, Tuple[str, ...]]]:
-    """Gives the streams of files, each once, with their names, and how they are packed. Raises `_TooMany` if there are more than are read."""
+    """Gives the streams of files, each once, with their names, and how they are packed. Raises `TooMany` if there are more than are read."""
     given: Set[Tuple[int, int]] = set()
     for it in specifications:
         embedded = it.get("/EF") if isinstance(it, pikepdf.Dictionary) else None
@@ -209,7 +179,7 @@ def _streams_of(pikepdf: Any, specifications: Iterable[Any]) -> Iterator[Tuple[s
             if isinstance(stream, pikepdf.Stream) and stream.objgen not in given:
                 given.add(stream.objgen)
                 if len(given) > MOST_ATTACHED:
-                    raise _TooMany(f"it has more than {MOST_ATTACHED:,} files attached, so that not all of them are looked into")
+                    raise TooMany(f"it has more than {MOST_ATTACHED:,} files attached, so that not all of them are looked into")
                 yield str(it.get("/UF", it.get("/F", "without name")))[:200], stream, _filters_of(pikepdf, stream)
 
 
@@ -256,13 +226,13 @@ def _values_of_fields(pikepdf: Any, root: Any) -> Iterator[Tuple[str, Any, str]]
     while left:
         above, fields, is_top = left.pop()
         if isinstance(fields, pikepdf.Array) and len(fields) > MOST_FIELDS:
-            raise _TooMany(f"its form has more than {MOST_FIELDS:,} fields, so that not all of its signatures are known")
+            raise TooMany(f"its form has more than {MOST_FIELDS:,} fields, so that not all of its signatures are known")
         for it in fields if isinstance(fields, pikepdf.Array) else ():
             if not isinstance(it, pikepdf.Dictionary) or it.is_indirect and it.objgen in seen:
                 continue
             seen.add(it.objgen if it.is_indirect else (-len(seen), 0))
             if len(seen) > MOST_FIELDS:
-                raise _TooMany(f"its form has more than {MOST_FIELDS:,} fields, so that not all of its signatures are known")
+                raise TooMany(f"its form has more than {MOST_FIELDS:,} fields, so that not all of its signatures are known")
             name = ".".join(filter(None, (above, str(it.get("/T", "")))))
             value, kids = it.get("/V"), it.get("/Kids")
             is_known = it.get("/FT") == pikepdf.Name.Sig and (is_top or "/Parent" in it)

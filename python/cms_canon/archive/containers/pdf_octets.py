@@ -3,7 +3,7 @@
 from __future__ import annotations
 
 import re
-from typing import Iterator, List, NamedTuple, Optional
+from typing import Iterable, Iterator, List, NamedTuple, Optional, Tuple
 
 MOST_TABLES = 200  # of objects, one for each revision
 _LAST = 1024  # octets at the end in which all readers look for the place of the table of objects
@@ -82,23 +82,38 @@ def _places(octets: bytes) -> Iterator[int]:
         at = int(before[1]) if before else -1
 
 
+def table_streams_of(octets: bytes) -> Iterator[int]:
+    """Gives the numbers of the streams that are tables of objects."""
+    for at in _places(octets):
+        if at >= 0 and (found := _FIRST_GENERATION.match(octets, at)):
+            yield int(found[0].split()[0])
+
+
 def _is_odd_table(octets: bytes, at: int) -> bool:
-    """Whether a table of objects that begins there is one which some readers may not take as it is. Tables in streams are not looked into."""
+    """Whether a table of objects that begins there is one which some readers may not take as it is. What is in a stream is not looked into."""
     if at < 0:
         return True
     begin = _TABLE.match(octets, at)
     if begin is None:
         return not _FIRST_GENERATION.match(octets, at)
     at = begin.end()
+    parts: List[Tuple[int, int]] = []
     while not _TRAILER.match(octets, at):
         part = _PART.match(octets, at)
         if part is None:
             return True
         first, count = int(part[1]), int(part[2])
+        parts.append((first, first + count))
         at = part.end() + _ENTRY_OCTETS * count
         if at > len(octets) or not all(_is_entry(octets, part.end() + _ENTRY_OCTETS * it, first + it) for it in range(count)):
             return True
-    return False
+    return not are_apart(parts)
+
+
+def are_apart(parts: Iterable[Tuple[int, int]]) -> bool:
+    """Whether no number is in two parts, of which each is the first number and that after the last one."""
+    in_order = sorted(parts)
+    return all(end <= begin for (_, end), (begin, _) in zip(in_order, in_order[1:]))
 
 
 def _is_entry(octets: bytes, at: int, number: int) -> bool:
