@@ -62,7 +62,7 @@ _ODD_QUOTED = re.compile(rb"[ \t]\r?$|=(?![0-9A-F]{2}|\r?\n)|\r(?!\n)", re.M)
 _AS_IT_IS = ("7bit", "8bit", "binary")  # the encodings that change nothing
 _MOST_TYPES = 20  # headers that say what a part is
 _FROM = re.compile(rb"^From ", re.M)
-_ARMOUR = b"\n-----BEGIN "
+_ARMOUR = b"-----BEGIN "
 _ALPHABET = re.compile(rb"[A-Za-z0-9+/\s]*(?:=\s*){0,2}\Z")
 _MOST_HEADERS = 1 << 20  # octets before a header that mails have
 _QUOTED_FROM = re.compile(rb"^>(>*From )", re.M)
@@ -153,14 +153,22 @@ def _of_headers(head: bytes) -> Iterator[str]:
         yield "readers differ on a control character among the headers"
 
 
+def _armour_in(head: bytes) -> int:
+    """Returns where a line begins PEM; -1 if none does."""
+    if head.startswith(_ARMOUR):
+        return 0
+    at = head.find(b"\n" + _ARMOUR)
+    return at + 1 if at >= 0 else -1
+
+
 def _part_of(span: Span, usual: str = "text/plain") -> _Part:
     """Returns what the headers say of a part, which without them is of the usual type, and its body."""
     end = _END_OF_HEADERS.search(span.view)
     begin = span.begin + end.end() if end else span.end
     head, body = span.whole[span.begin : begin], span.part(begin, span.end)
     notes = list(_of_headers(head))
-    if (at := head.find(_ARMOUR)) >= 0:  # of a text that is no mail, for other readers
-        head, body = head[:at], span.part(span.begin + at + 1, span.end)
+    if (at := _armour_in(head)) >= 0:  # of a text that is no mail, for other readers
+        head, body = head[:at], span.part(span.begin + at, span.end)
     wanted = _headers_in(head)
     if not wanted:
         return _Part(_NO_HEADERS, usual, None, tuple(notes), body)
@@ -317,6 +325,8 @@ class Mail:
             yield Found(where or "body", f"mail {part.kind}", Class.MESSAGE, len(message), message, note=around.note(_of_coding(part)))
         elif part.kind == "message/rfc822":
             yield from self._in_forwarded(f"{where}/mail" if where else "mail", part, depth, replace(around, has_others=False))
+        elif part.kind == "message/partial":
+            yield Found(where or "body", "part of a mail", Class.NOT_LOOKED_INTO, part.body.length)
         elif part.kind.startswith("multipart/"):
             yield from self._in_parts(where, part, depth, around)
         else:
@@ -398,7 +408,10 @@ def in_mail(source: Source, search: Search) -> Iterator[Found]:
     """Gives what is signed in a mail."""
     octets = source.octets()
     with source.budget.holding(0 if source.is_in_memory else len(octets)):
-        yield from Mail(source, search).found(octets)
+        if b"\n" in source.head or b"\r" not in source.head:
+            yield from Mail(source, search).found(octets)
+        else:
+            yield Found("mail", "mail", Class.NOT_LOOKED_INTO, len(octets), note="its lines end in a lone CR")
 
 
 def _line_in(octets: bytearray, at: int) -> Tuple[int, int]:

@@ -8,7 +8,7 @@ from __future__ import annotations
 
 import io
 from contextlib import contextmanager
-from typing import Any, BinaryIO, Iterator, Optional
+from typing import Any, BinaryIO, Iterator, Optional, Tuple
 
 import cms_canon
 
@@ -25,6 +25,7 @@ MOST_PARTS = 100_000  # sections, lines and elements of the manifests in any fil
 OCTETS_OF_A_PART = 8
 MOST_STEPS = 20_000  # which parts of mails, messages in PEM and PDFs in any file cost, or one for so many octets: each takes some 50 to 90 microseconds
 OCTETS_OF_A_STEP = 512
+MOST_FORWARD = 64 << 20  # octets of a member that are read for its end
 MOST_HELD = 32 << 20  # octets of mails inside one another that are kept at once, with twice those of the largest
 DEEPEST = 4  # packed files inside one another
 DEEPEST_MAIL = 20  # mails inside one another
@@ -164,6 +165,29 @@ class Source:
             self.budget.take(len(piece))
             last = (last + piece)[-most:]
         return last
+
+    def ends(self, first: int, last: int) -> Tuple[bytes, Optional[bytes]]:
+        """Returns the first and the last octets, at most so many. What is read forward cannot be read again, and has None for the last octets if it has
+        more than are read for that."""
+        if self._octets is not None:
+            return self._octets[:first], self._octets[-last:]
+        if self._is_seekable:
+            self._file.seek(0)
+            begin = self._file.read(first)
+            self.budget.take(len(begin))
+            return begin, self.tail(last)
+        begin = end = self.head
+        octets = len(begin)
+        while piece := self._file.read(PIECE):
+            self.budget.take(len(piece))
+            octets += len(piece)
+            if len(begin) < first:
+                begin = (begin + piece)[:first]
+            end = (end + piece)[-last:]
+            if octets > MOST_FORWARD:
+                return begin, None
+        self.size = octets
+        return begin, end
 
     def _read_at_once(self) -> bytes:
         """Returns all of a file whose size is known, of which pieces would take twice the memory."""
