@@ -184,7 +184,7 @@ NOT_READ = {  # the class and the form of files
         "zip.cmd": (b"java -jar %0\r\n" + zipped({"a": b"b"}), "zip after something else"),
         "a.cpio": (b"070701" + b"0" * 104 + b"a", "cpio"), "odc.cpio": (b"070707" + b"0" * 70 + b"a", "cpio"),
         "bin.cpio": (b"\xc7\x71" + bytes(18) + b"\2\0" + bytes(9), "cpio"),
-        "a.iso": (bytes(0x8001) + b"CD001\1" + bytes(9000), "ISO 9660"), "udf.iso": (bytes(0x8001) + b"BEA01", "ISO 9660"),
+        "a.iso": (bytes(0x8001) + b"CD001\1" + bytes(9000), "ISO 9660 or UDF"), "udf.iso": (bytes(0x8001) + b"BEA01", "ISO 9660 or UDF"),
         "a.dmg": (bytes(9000) + b"koly" + bytes(508), "disk image of Apple"), "a.xar": (b"xar!" + bytes(40), "xar"),
         "a.rpm": (b"\xed\xab\xee\xdb\3" + bytes(90), "RPM"), "a.Z": (b"\x1f\x9d\x90a", "compress"), "a.lz": (b"LZIP\1\x0c" + bytes(9), "lzip"),
         "a.lz4": (b"\x04\x22\x4d\x18d" + bytes(9), "LZ4"), "a.lzma": (b"\x5d\0\0\x80\0" + b"\xff" * 8 + bytes(9), "LZMA"),

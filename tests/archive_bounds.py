@@ -94,10 +94,14 @@ def in_stream(data: bytes, words: bytes) -> bytes:
     return b"<< %s /Filter /FlateDecode /Length %d >>\nstream\n%s\nendstream" % (words, len(packed), packed)
 
 
+def whole(octets: bytes) -> Evil:
+    return Evil(octets, len(octets), is_too_large=False)
+
+
 def mail(octets: bytes, is_too_large: bool = False) -> Evil:
     """Returns a mail, or an mbox if it begins so."""
-    whole = octets if octets.startswith(b"From ") else b"From: a\nMIME-Version: 1.0\n" + octets
-    return Evil(whole, len(whole), is_too_large)
+    octets = octets if octets.startswith(b"From ") else b"From: a\nMIME-Version: 1.0\n" + octets
+    return Evil(octets, len(octets), is_too_large)
 
 
 def signed_mail(make: Maker, text: bytes) -> Evil:
@@ -166,6 +170,12 @@ def evils(make: Maker) -> Dict[str, Evil]:
         "names in capitals.zip": zip_of(make, 79_990, "A/B/C/D/E/F/G/H/I/J/K/L/M/N/O/A%d", b"x" * 400),
         "messages.zip": zip_of(make, 20_000, "a%d", b"x", messages=20_000),
         **evil_mails(make),
+        "marks.exe": whole(b"MZ" + b"MSCF\0\0\0\0" * 10_000_000),
+        "lines.run": whole(b"#!/bin/sh\n" + b"\n\x1f" * 20_000_000),
+        "ends.bin": whole(b"\0" + b"PK\5\6" * 10_000_000),
+        "objects.json": whole(b"{" + b'"signature"' * 4_000_000),
+        "dots.jws": whole(b"eyJ" + b"a" * 40_000_000 + b"." + b"a" * 40_000_000),
+        "program.exe.gz": Evil(gzip.compress(b"MZ" + bytes(200 << 20)), 200 << 20, is_too_large=False),
         "fields.pdf": pdf(((1, b"<< /Type /Catalog /Pages 2 0 R /AcroForm << /Fields [%s] >> >>" % (b"null " * 2_000_000)),)),
         "object streams.pdf": pdf(tuple((number, in_stream(b" " * 1000, b"/Type /ObjStm /N 0 /First 0")) for number in range(200, 5000))),
         "large object stream.pdf": pdf(((200, in_stream(bytes(600 << 20), b"/Type /ObjStm /N 0 /First 0")),)),

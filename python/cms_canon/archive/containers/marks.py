@@ -19,8 +19,11 @@ _ISO_AT, _ISO = 0x8001, (b"CD001", b"BEA01", b"NSR02", b"NSR03")
 _DISK_IMAGE_AT, _DISK_IMAGE = -512, b"koly"
 _MODULE_END = b"~Module signature appended~\n"
 _APPLE_SIGNATURE = b"\xfa\xde\x0c\xc0"
-_INSIDE = {b"7z\xbc\xaf\x27\x1c\0": "7z", b"Rar!\x1a\x07\0": "RAR", b"Rar!\x1a\x07\1\0": "RAR", b"MSCF\0\0\0\0": "cab"}
-_CAB_VERSION_AT, _CAB_VERSION = 24, b"\3\1"
+_INSIDE = {  # programs, archives of these formats
+    "7z": re.compile(rb"7z\xbc\xaf\x27\x1c\0"),
+    "RAR": re.compile(rb"Rar!\x1a\x07\x01?\0"),
+    "cab": re.compile(rb"(?s)MSCF\0{4}.{16}\x03\x01"),
+}
 _END_OF_ZIP = re.compile(rb"(?s)PK\x05\x06.{8}(....)(....)(..)")
 _LONGEST_END = 22 + 0xFFFF  # octets of the end of a zip, with its comment
 _PACKED_IN_SCRIPT = re.compile(rb"\n(?:\x1f\x8b\x08|BZh[1-9]1AY&SY|\xfd7zXZ\0|\x28\xb5\x2f\xfd|\x5d\0\0[\0-\xff]{2}\xff{8})")
@@ -89,13 +92,8 @@ def _in_octets(octets: bytes) -> Optional[Found]:
         return _named("signature of a kernel module", len(octets), Class.OTHER)
     if not octets.startswith((b"MZ", b"\x7fELF", b"#!")) and _APPLE_SIGNATURE in octets:
         return _named("signature of a program of Apple", len(octets), Class.OTHER)
-    for mark, form in _INSIDE.items():
-        at = octets.find(mark)
-        if at >= 0 and (form != "cab" or octets.startswith(_CAB_VERSION, at + _CAB_VERSION_AT)):
-            return _named(f"self-extracting {form}", len(octets))
-    if ends_as_zip(octets):
-        return _named("self-extracting zip", len(octets))
-    return _in_script(octets)
+    form = next((form for form, mark in _INSIDE.items() if mark.search(octets)), "zip" if ends_as_zip(octets) else "")
+    return _named(f"self-extracting {form}", len(octets)) if form else _in_script(octets)
 
 
 def _in_script(octets: bytes) -> Optional[Found]:
@@ -133,7 +131,7 @@ def elsewhere(source: Source) -> Optional[Found]:
         return _named(form, source.size)
     begin, end = source.ends(_ISO_AT + 5, _LONGEST_END)
     if begin.startswith(_ISO, _ISO_AT):
-        return _named("ISO 9660", source.size)
+        return _named("ISO 9660 or UDF", source.size)
     if end is None:
         return _named("file", source.size, Class.NO_CANDIDATE, "it is so large that its end was not looked at")
     if end[_DISK_IMAGE_AT:].startswith(_DISK_IMAGE):
