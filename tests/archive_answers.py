@@ -8,6 +8,7 @@ Paths are longer than the kernel takes, and files are FIFOs or encrypted. Each m
 """
 
 import base64
+import gzip
 import hashlib
 import io
 import json
@@ -147,16 +148,52 @@ def judge_weak(home, make):
 OLE = b"\xd0\xcf\x11\xe0\xa1\xb1\x1a\xe1" + bytes(600)
 TIME_STAMPED = bytes.fromhex("301a060b2a864886f70d010910011fa00b3009020101a0043002a000")
 EVIDENCE = bytes.fromhex("3020020101300d300b0609608648016503040201a10c") + bytes(12)
+
+
+def late_header() -> bytes:
+    """Returns a program for Windows whose header, which says that it is signed, comes late."""
+    octets = bytearray(8000)
+    octets[:2], octets[60:64], octets[5000:5004], octets[5024:5026] = b"MZ", struct.pack("<I", 5000), b"PE\0\0", b"\x0b\2"
+    octets[5168:5176] = struct.pack("<II", 6000, 1000)
+    return bytes(octets)
+
+
 NOT_READ = {  # the class and the form of files
-    "a.7z": (b"7z\xbc\xaf\x27\x1c" + bytes(30), "not looked into", "7z"), "a.rar": (b"Rar!\x1a\x07\x01\0" + bytes(30), "not looked into", "RAR"),
-    "a.cab": (b"MSCF" + bytes(60), "not looked into", "cab"), "a.deb": (b"!<arch>\ndebian-binary   0", "not looked into", "deb"),
-    "a.msi": (OLE, "not looked into", "MSI"), "a.msg": (OLE, "not looked into", "Outlook message"), "a.doc": (OLE, "not looked into", "OLE document"),
-    "a.exe": (b"MZ" + bytes(70_000) + zipped({"a": b"b"}), "not looked into", "self-extracting zip"),
     "xades.xml": (b'<S xmlns="http://www.w3.org/2000/09/xmldsig#" xmlns:x="http://uri.etsi.org/01903/v1.3.2#"><SignatureValue/></S>',
                   "other signed format", "XAdES"),
     "a.ers": (EVIDENCE, "other signed format", "evidence record"), "a.tsd": (TIME_STAMPED, "other signed format", "TimeStampedData"),
     "ers.xml": (b'<EvidenceRecord xmlns="urn:ietf:params:xml:ns:ers"/>', "other signed format", "evidence record"),
     "a.sig": (b"\x88\x5e\4" + bytes(90), "other signed format", "OpenPGP"),
+    "late.exe": (late_header(), "other signed format", "Authenticode"),
+    "macho": (b"\xcf\xfa\xed\xfe" + bytes(5000) + b"\xfa\xde\x0c\xc0", "other signed format", "signature of a program of Apple"),
+    "a.ko": (b"\x7fELF" + bytes(5000) + b"~Module signature appended~\n", "other signed format", "signature of a kernel module"),
+    "a.json": (b'{"payload":"e30","signatures":[{"protected":"e30","signature":"AA"}]}', "other signed format", "JWS"),
+    "a.jws": (b"eyJhbGciOiJFUzI1NiJ9..c2lnbmF0dXJl\n", "other signed format", "JWS"),
+    "a.minisig": (b"untrusted comment: signature\nRWQf\n", "other signed format", "minisign or signify"),
+    **{name: (octets, "not looked into", form) for name, (octets, form) in {
+        "a.7z": (b"7z\xbc\xaf\x27\x1c" + bytes(30), "7z"), "a.rar": (b"Rar!\x1a\x07\x01\0" + bytes(30), "RAR"),
+        "a.cab": (b"MSCF" + bytes(60), "cab"), "a.deb": (b"!<arch>\ndebian-binary   0", "deb"),
+        "a.msi": (OLE, "MSI"), "a.msg": (OLE, "Outlook message"), "a.doc": (OLE, "OLE document"),
+        "a.exe": (b"MZ" + bytes(70_000) + zipped({"a": b"b"}), "self-extracting zip"),
+        "7z.exe": (b"MZ" + bytes(70_000) + b"7z\xbc\xaf\x27\x1c\0\4" + bytes(30), "self-extracting 7z"),
+        "cab.exe": (b"MZ" + bytes(70_000) + b"MSCF".ljust(24, b"\0") + b"\3\1", "self-extracting cab"),
+        "long.run": (b"#!/bin/sh\n" + b"# a text\n" * 1000 + zipped({"a": b"b"}), "self-extracting zip"),
+        "packed.run": (b"#!/bin/sh\n" + b"# a text\n" * 1000 + gzip.compress(b"a"), "self-extracting archive"),
+        "short.run": (b"#!/bin/sh\n" + gzip.compress(b"a"), "self-extracting archive"),
+        "zip.jpg": (b"\xff\xd8\xff\xe0" + bytes(70_000) + zipped({"a": b"b"}), "zip after something else"),
+        "zip.cmd": (b"java -jar %0\r\n" + zipped({"a": b"b"}), "zip after something else"),
+        "a.cpio": (b"070701" + b"0" * 104 + b"a", "cpio"), "odc.cpio": (b"070707" + b"0" * 70 + b"a", "cpio"),
+        "bin.cpio": (b"\xc7\x71" + bytes(18) + b"\2\0" + bytes(9), "cpio"),
+        "a.iso": (bytes(0x8001) + b"CD001\1" + bytes(9000), "ISO 9660 or UDF"), "udf.iso": (bytes(0x8001) + b"BEA01", "ISO 9660 or UDF"),
+        "a.dmg": (bytes(9000) + b"koly" + bytes(508), "disk image of Apple"), "a.xar": (b"xar!" + bytes(40), "xar"),
+        "a.rpm": (b"\xed\xab\xee\xdb\3" + bytes(90), "RPM"), "a.Z": (b"\x1f\x9d\x90a", "compress"), "a.lz": (b"LZIP\1\x0c" + bytes(9), "lzip"),
+        "a.lz4": (b"\x04\x22\x4d\x18d" + bytes(9), "LZ4"), "a.lzma": (b"\x5d\0\0\x80\0" + b"\xff" * 8 + bytes(9), "LZMA"),
+        "known.lzma": (b"\x5d\0\0\x80\0\x12" + bytes(17), "LZMA"), "a.lzo": (b"\x89LZO\0\r\n\x1a\n", "lzop"),
+        "a.lha": (b"\x20\0-lh5-" + bytes(30), "LHA"), "a.warc": (b"WARC/1.0\r\nWARC-Type: warcinfo\r\n", "WARC"),
+        "a.fdf": (b"%FDF-1.2\n1 0 obj\n<< /FDF << >> >>\n", "FDF"), "winmail.dat": (b"\x78\x9f\x3e\x22" + bytes(50), "TNEF"),
+        "a.pst": (b"!BDN" + bytes(600), "Outlook folder"), "a.emlx": (b"27\nFrom: a@example.org\n\ntext\n", "emlx"),
+        "line first.eml": (b"a line\nFrom: a\nContent-Type: Multipart/Signed; boundary=b\n\n", "mail after something else"),
+    }.items()},
 }
 
 

@@ -9,6 +9,7 @@ manifests that are worse, by putting together parts of them at random.
 """
 
 import base64
+import gzip
 import io
 import json
 import subprocess
@@ -18,7 +19,7 @@ import zipfile
 import zlib
 from pathlib import Path
 from random import Random
-from typing import Dict, List, NamedTuple, Tuple
+from typing import Callable, Dict, List, NamedTuple, Tuple
 
 from archive import count_if, judged_in_a_copy, tally, write_files, zipped
 from archive_containers import Maker
@@ -93,13 +94,60 @@ def in_stream(data: bytes, words: bytes) -> bytes:
     return b"<< %s /Filter /FlateDecode /Length %d >>\nstream\n%s\nendstream" % (words, len(packed), packed)
 
 
+def whole(octets: bytes) -> Evil:
+    return Evil(octets, len(octets), is_too_large=False)
+
+
+def mail(octets: bytes, is_too_large: bool = False) -> Evil:
+    """Returns a mail, or an mbox if it begins so."""
+    octets = octets if octets.startswith(b"From ") else b"From: a\nMIME-Version: 1.0\n" + octets
+    return Evil(octets, len(octets), is_too_large)
+
+
 def signed_mail(make: Maker, text: bytes) -> Evil:
     """Returns a mail that is signed as it would be with CRLF at the ends of lines."""
     part = b"Content-Type: text/plain\n\n" + text
-    head = b'From: a\nContent-Type: multipart/signed; boundary="b"; protocol="application/pkcs7-signature"\n\n--b\n'
+    head = b'Content-Type: multipart/signed; boundary="b"; protocol="application/pkcs7-signature"\n\n--b\n'
     tail = b"\n--b\nContent-Type: application/pkcs7-signature\nContent-Transfer-Encoding: base64\n\n%s\n--b--\n"
-    mail = head + part + tail % base64.encodebytes(make.cms(part.replace(b"\n", b"\r\n")))
-    return Evil(mail, len(mail), is_too_large=False)
+    return mail(head + part + tail % base64.encodebytes(make.cms(part.replace(b"\n", b"\r\n"))))
+
+
+def nested(octets: bytes, around: bytes, encode: Callable[[bytes], bytes] = bytes, levels: int = 19) -> Evil:
+    """Returns a mail with others inside one another: `%d` around them is the number of the level, and `%s` what is inside."""
+    for level in range(levels):
+        octets = around.replace(b"%d", b"%d" % level).replace(b"%s", encode(octets))
+    return mail(octets)
+
+
+def parts(part: bytes, times: int, is_too_large: bool = True) -> Evil:
+    return mail(b"Content-Type: multipart/mixed; boundary=b\n\n%s--b--\n" % ((b"--b\nContent-Type: " + part + b"\n") * times), is_too_large)
+
+
+def evil_mails(make: Maker) -> Dict[str, Evil]:
+    multipart, mixed, lines = b"Content-Type: multipart/%s; boundary=b%%d\n\n--b%%d\n%%s\n%s--b%%d--\n", b"mixed", b"y" * 76 + b"\n"
+    signature = b"--b%d\nContent-Type: application/pkcs7-signature\n\nMIIB\n"
+    encoded = b"From: a\nContent-Type: a/b; name=a.eml\nContent-Transfer-Encoding: base64\n\n%s"
+    mbox, small = b"From x\n" + b"From:a\n\nFrom x\n" * 200_000, parts(b"a/b\n", 400_000)
+    deep = b"a/b\n\n" + b"From:a\nContent-Type:a/b\n\n" * 19
+    return {
+        "quoted.mbox": mail(b"From a\nFrom: a\n\n" + b">From \n" * 12_000_000),
+        "short lines.eml": signed_mail(make, b"a\n" * 5_000_000),
+        "empty lines.eml": signed_mail(make, b"\n" * 10_000_000),
+        "multiparts.eml": nested(b"\n" + b"y" * (20 << 20), multipart % (mixed, b"")),
+        "signed multiparts.eml": nested(b"\n" + lines * 300_000, multipart % (b"signed", signature), levels=10),
+        "forwarded.eml": nested(b"\n" + b"y" * (20 << 20), b"Content-Type: message/rfc822\n\nFrom: a\n%s"),
+        "encoded mails.eml": nested(b"From: a\n\n" + b"y" * (10 << 20), encoded, base64.encodebytes, 6)._replace(is_too_large=True),
+        "boundaries.eml": nested(b"\n" + b"--b19x\n" * 1_500_000, multipart % (mixed, b"")),
+        "parts.eml": small,
+        "parts.eml.gz": Evil(gzip.compress(small.octets), small.largest),
+        "parts with PDFs.eml": parts(b"a/b\n\n%PDF-", 100_000),
+        "parts with messages.eml": parts(b"a/b\n\n" + b"-----BEGIN CMS-----\nMA==\n-----END CMS-----\n" * 2, 100_000),
+        "parts with mails.eml": parts(deep, 20_000),
+        "signed parts.eml": parts(b"multipart/signed; boundary=c\n\n--c\n\nx\n--c\nContent-Type: application/pkcs7-signature\n\n0\n--c--", 100_000),
+        "many.mbox": mail(mbox, is_too_large=True),
+        "many.mbox.gz": Evil(gzip.compress(mbox), 1 << 20),
+        "large mails.mbox.gz": Evil(gzip.compress(b"From x\nFrom:a\n\n%s\n" % (lines * 100_000) * 20), 77 * 100_000, is_too_large=False),
+    }
 
 
 def evils(make: Maker) -> Dict[str, Evil]:
@@ -121,10 +169,13 @@ def evils(make: Maker) -> Dict[str, Evil]:
         "names with several paths.zip": zip_of(make, 79_990, "../\xe4/../a%d", b"x" * 430),
         "names in capitals.zip": zip_of(make, 79_990, "A/B/C/D/E/F/G/H/I/J/K/L/M/N/O/A%d", b"x" * 400),
         "messages.zip": zip_of(make, 20_000, "a%d", b"x", messages=20_000),
-        "parts.eml": Evil(b"From: a\nContent-Type: multipart/mixed; boundary=b\n\n" + b"--b\nContent-Type: a/b\n\nx\n" * 300_000, 7_500_000),
-        "mails.mbox": Evil(b"From a\nFrom: a\n\nx\n\n" * 200_000, 4_000_000),
-        "quoted.mbox": Evil(b"From a\nFrom: a\n\n" + b">From \n" * 4_000_000, 28_000_000, is_too_large=False),
-        "short lines.eml": signed_mail(make, b"a\n" * 5_000_000),
+        **evil_mails(make),
+        "marks.exe": whole(b"MZ" + b"MSCF\0\0\0\0" * 10_000_000),
+        "lines.run": whole(b"#!/bin/sh\n" + b"\n\x1f" * 20_000_000),
+        "ends.bin": whole(b"\0" + b"PK\5\6" * 10_000_000),
+        "objects.json": whole(b"{" + b'"signature"' * 4_000_000),
+        "dots.jws": whole(b"eyJ" + b"a" * 40_000_000 + b"." + b"a" * 40_000_000),
+        "program.exe.gz": Evil(gzip.compress(b"MZ" + bytes(200 << 20)), 200 << 20, is_too_large=False),
         "fields.pdf": pdf(((1, b"<< /Type /Catalog /Pages 2 0 R /AcroForm << /Fields [%s] >> >>" % (b"null " * 2_000_000)),)),
         "object streams.pdf": pdf(tuple((number, in_stream(b" " * 1000, b"/Type /ObjStm /N 0 /First 0")) for number in range(200, 5000))),
         "large object stream.pdf": pdf(((200, in_stream(bytes(600 << 20), b"/Type /ObjStm /N 0 /First 0")),)),

@@ -85,6 +85,7 @@ def in_pem(octets: bytes, source: Source) -> Iterator[Found]:
     others = set()
     for block in _blocks_of(octets, source.budget):
         if block.label in SIGNED or _is_message(_decoded(block.body)):
+            source.budget.take_steps()
             blocks.append(block)
         else:
             others.add(block.label)

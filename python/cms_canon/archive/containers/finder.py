@@ -11,7 +11,7 @@ from typing import Callable, Dict, Iterator, Optional, Tuple
 
 import cms_canon
 
-from . import armour, mail, named, packed, pdf, zips
+from . import armour, mail, marks, named, packed, pdf, zips
 from .found import Class, Found, counted, is_message
 from .packed import Packing
 from .sources import DEEPEST, DEEPEST_MAIL, TEXT, Ended, Source, TooLarge, in_memory
@@ -99,7 +99,7 @@ def _look_for(source: Source, depth: int, mails: int) -> Look:
     inner = partial(found_in, depth=depth + 1, mails=mails)
     packing = packed.packing_of(source)
     if source.head.startswith(pdf.BEGIN):
-        return "PDF", partial(pdf.in_pdf, source, partial(_in_attached, depth, mails))
+        return "PDF", partial(_in_pdf, source, partial(_in_attached, depth, mails))
     if zips.is_zip(source):
         return "zip", partial(_packed, source, depth, partial(zips.in_zip, source, inner))
     if packing is not None:
@@ -107,7 +107,7 @@ def _look_for(source: Source, depth: int, mails: int) -> Look:
         return packing.name, partial(_packed, source, depth, into)
     if packed.is_tar(source):
         return "tar", partial(_packed, source, depth, packed.Tar(source, None, inner).found)
-    if (archive := named.archive(source)) is not None:
+    if (archive := marks.by_beginning(source)) is not None:
         return archive.form, lambda: iter((archive,))
     if source.head and not source.head.translate(None, TEXT) or mail.is_mail(source.head):
         return _look_for_text(source, depth, mails)
@@ -131,9 +131,16 @@ def _or_pdf(source: Source, form: str, into: Into, depth: int, mails: int) -> Lo
     return ("PDF", late) if pdf.BEGIN in source.head[:pdf.BEGINS_WITHIN] else (form, into)
 
 
+def _in_pdf(source: Source, search: packed.Search) -> Iterator[Found]:
+    """Gives the signatures of a PDF, and that a zip ends with it, which other programs open."""
+    yield from pdf.in_pdf(source, search)
+    if marks.pdf_ends_as_zip(source.octets()):
+        yield Found("zip", "zip after something else", Class.NOT_LOOKED_INTO, source.size, note="the file ends as a zip")
+
+
 def _in_late_pdf(source: Source, into: Into, search: packed.Search) -> Iterator[Found]:
     """Gives the signatures of a PDF, and what else there is in the file."""
-    yield from pdf.in_pdf(source, search)
+    yield from _in_pdf(source, search)
     yield from (it for it in into() if it.where or it.what not in (Class.TEXT, Class.NO_CANDIDATE))
 
 
@@ -173,12 +180,13 @@ def _in_text(source: Source) -> Iterator[Found]:
         yield base64
         return
     octets = source.octets()
-    if (xml := named.in_xml(octets)) is not None:
-        yield xml
+    if (known := named.in_xml(octets) or marks.in_text(octets)) is not None:
+        yield known
     elif _BEGIN in octets:
         yield from _as_named(source, octets, armour.in_pem(octets, source))
     else:
-        yield from _as_named(source, octets, iter((Found("", "text", Class.TEXT, len(octets)),)))
+        known = marks.mail_in_text(octets) or Found("", "text", Class.TEXT, len(octets))
+        yield from _as_named(source, octets, iter((known,)))
 
 
 def _in_utf_16(source: Source) -> Iterator[Found]:
@@ -211,5 +219,5 @@ def _in_octets(source: Source) -> Iterator[Found]:
     if source.head.startswith(_ELEMENT) or source.name.lower().endswith(SIGNATURE_ENDINGS):
         yield _message(source, source.octets())
         return
-    known = named.authenticode(source) or named.openpgp(source) or named.archive(source) or named.self_extracting(source)
+    known = named.authenticode(source) or named.openpgp(source) or marks.in_program(source) or marks.elsewhere(source)
     yield known or Found("", "file", Class.NO_CANDIDATE, source.size, note="" if source.head else "empty")

@@ -10,19 +10,21 @@ differently, as two parameters of one name, has a note.
 from __future__ import annotations
 
 import binascii
+import io
 import re
-from base64 import b64decode
 from dataclasses import dataclass, replace
 from email.message import Message
 from email.parser import BytesHeaderParser
 from email.policy import compat32
-from itertools import chain
+from functools import cached_property
+from itertools import chain, islice
 from typing import BinaryIO, Callable, Iterator, List, NamedTuple, Optional, Tuple
 
 import cms_canon
 
 from .found import Class, Content, Found, Octets, Pieces, State
 from .sources import MOST_IN_MEMORY, PIECE, Budget, Source, TooLarge, in_memory
+from .spans import Span, span_of
 
 Search = Callable[[Source], Iterator[Found]]
 
@@ -57,9 +59,10 @@ _QUOTED_OR_COMMENT = re.compile(r'"(?:[^"\\]|\\.)*"|\((?:[^()\\]|\\.)*\)', re.S)
 _DEEPEST_COMMENT = 3  # inside one another
 _QUOTED_PAIR = re.compile(r"\\(.)", re.S)
 _ODD_QUOTED = re.compile(rb"[ \t]\r?$|=(?![0-9A-F]{2}|\r?\n)|\r(?!\n)", re.M)
+_AS_IT_IS = ("7bit", "8bit", "binary")  # the encodings that change nothing
 _MOST_TYPES = 20  # headers that say what a part is
 _FROM = re.compile(rb"^From ", re.M)
-_ARMOUR = b"\n-----BEGIN "
+_ARMOUR = b"-----BEGIN "
 _ALPHABET = re.compile(rb"[A-Za-z0-9+/\s]*(?:=\s*){0,2}\Z")
 _MOST_HEADERS = 1 << 20  # octets before a header that mails have
 _QUOTED_FROM = re.compile(rb"^>(>*From )", re.M)
@@ -79,7 +82,7 @@ class _Part(NamedTuple):
     kind: str
     boundary: Optional[str]
     notes: Tuple[str, ...]
-    body: bytes
+    body: Span
 
     @property
     def coding(self) -> str:
@@ -150,13 +153,22 @@ def _of_headers(head: bytes) -> Iterator[str]:
         yield "readers differ on a control character among the headers"
 
 
-def _part_of(octets: bytes, usual: str = "text/plain") -> _Part:
+def _armour_in(head: bytes) -> int:
+    """Returns where a line begins PEM; -1 if none does."""
+    if head.startswith(_ARMOUR):
+        return 0
+    at = head.find(b"\n" + _ARMOUR)
+    return at + 1 if at >= 0 else -1
+
+
+def _part_of(span: Span, usual: str = "text/plain") -> _Part:
     """Returns what the headers say of a part, which without them is of the usual type, and its body."""
-    end = _END_OF_HEADERS.search(octets)
-    head, body = (octets[: end.end()], octets[end.end() :]) if end else (octets, b"")
+    end = _END_OF_HEADERS.search(span.view)
+    begin = span.begin + end.end() if end else span.end
+    head, body = span.whole[span.begin : begin], span.part(begin, span.end)
     notes = list(_of_headers(head))
-    if (at := head.find(_ARMOUR)) >= 0:  # of a text that is no mail, for other readers
-        head, body = octets[:at], octets[at + 1 :]
+    if (at := _armour_in(head)) >= 0:  # of a text that is no mail, for other readers
+        head, body = head[:at], span.part(span.begin + at, span.end)
     wanted = _headers_in(head)
     if not wanted:
         return _Part(_NO_HEADERS, usual, None, tuple(notes), body)
@@ -192,86 +204,89 @@ def _type_of(text: str) -> Tuple[str, Optional[str]]:
 
 
 def _decoded(part: _Part) -> bytes:
+    """Returns the octets of a body. Raises `_Damaged` if they are not encoded as is said."""
     try:
         if part.coding == "base64":
-            return b64decode(part.body)
-        return binascii.a2b_qp(part.body) if part.coding == "quoted-printable" else part.body
+            return binascii.a2b_base64(part.body.view)
     except binascii.Error as error:
         raise _Damaged(f"it is not {part.coding}: {error}")
+    if part.coding != "quoted-printable":
+        return part.body.octets()
+    octets = io.BytesIO()  # which hands them over without a copy
+    for lines in part.body.lines():
+        octets.write(binascii.a2b_qp(lines))
+    return octets.getvalue()
+
+
+def _most_decoded(part: _Part) -> int:
+    """Returns how many octets a body has at most when it is decoded."""
+    return 3 * part.body.length // 4 if part.coding == "base64" else part.body.length
 
 
 def _of_coding(part: _Part) -> str:
     """Returns what readers differ on in the encoding of a message."""
-    if part.coding == "base64" and not _ALPHABET.match(part.body):
+    if part.coding == "base64" and not _ALPHABET.match(part.body.view):
         return "readers differ on characters that are not of base64"
-    if part.coding == "quoted-printable" and _ODD_QUOTED.search(part.body):
+    if part.coding == "quoted-printable" and _ODD_QUOTED.search(part.body.view):
         return "readers differ on characters of quoted-printable"
-    is_known = part.coding in ("7bit", "8bit", "binary", "base64", "quoted-printable")
+    is_known = part.coding in (*_AS_IT_IS, "base64", "quoted-printable")
     return "" if is_known else "readers differ on Content-Transfer-Encoding"
 
 
 def _of_delimiters(part: _Part, boundary: bytes) -> Iterator[str]:
     """Gives what readers differ on in a multipart."""
-    if part.coding not in ("7bit", "8bit", "binary"):
+    if part.coding not in _AS_IT_IS:
         yield "readers differ on a multipart that is said to be encoded"
-    delimiter = re.escape(b"--" + boundary)
-    if re.search(rb"\r" + delimiter + rb"|" + delimiter + rb"(?:--)?[ \t]*\r(?!\n)", part.body):
+    delimiter, view = re.escape(b"--" + boundary), part.body.view
+    if re.search(rb"\r" + delimiter + rb"|" + delimiter + rb"(?:--)?[ \t]*\r(?!\n)", view):
         yield "readers differ on a lone CR beside a boundary"
-    if re.search(rb"(?:\A|\n)" + delimiter + rb"(?!(?:--)?[ \t]*\r?(?:\n|\Z))", part.body):
+    if re.search(rb"(?:\A|\n)" + delimiter + rb"(?!(?:--)?[ \t]*\r?(?:\n|\Z))", view):
         yield "readers differ on a line that begins as a boundary"
 
 
-def _delimiters_in(body: bytes, boundary: bytes) -> Iterator[Tuple[int, int, bool]]:
+def _delimiters_in(body: Span, boundary: bytes) -> Iterator[Tuple[int, int, bool]]:
     """Gives where each delimiter line begins, with the line end before it, and ends, and whether it is the last (RFC 2046, section 5.1.1)."""
-    delimiter, at = b"--" + boundary, 0
-    while (begin := body.find(delimiter, at)) >= 0:
+    delimiter, whole, at = b"--" + boundary, body.whole, body.begin
+    while (begin := whole.find(delimiter, at, body.end)) >= 0:
         at = begin + len(delimiter)
-        rest = _REST_OF_DELIMITER.match(body, at)
-        if rest and (begin == 0 or body[begin - 1 : begin] == b"\n"):
-            before = 0 if begin == 0 else 2 if body[begin - 2 : begin] == b"\r\n" else 1
+        rest = _REST_OF_DELIMITER.match(whole, at, body.end)
+        line_end = whole[max(body.begin, begin - 2) : begin]
+        if rest and (not line_end or line_end.endswith(b"\n")):
+            before = 0 if not line_end else 2 if line_end == b"\r\n" else 1
             yield begin - before, rest.end(), bool(rest[1])
 
 
-def _parts_in(body: bytes, boundary: bytes, budget: Budget) -> Iterator[bytes]:
-    """Gives the octets between two delimiter lines. Two of them may share a line end."""
+def _parts_in(body: Span, boundary: bytes, budget: Budget) -> Iterator[Span]:
+    """Gives what lies between two delimiter lines. Two of them may share a line end."""
     begin = None
     for end, after, is_last in _delimiters_in(body, boundary):
-        budget.take_mail()
+        budget.take_member()
         if begin is not None:
-            yield body[begin : max(begin, end)]
+            yield body.part(begin, end)
         if is_last:
             return
-        line_end = _LINE_END.match(body, after)
+        line_end = _LINE_END.match(body.whole, after, body.end)
         begin = line_end.end() if line_end else after
     if begin is not None:
-        yield body[begin:]
-
-
-def _lines_in(octets: bytes) -> Iterator[bytes]:
-    """Gives octets in pieces of many whole lines, as what replaces something in a piece may take many times its memory."""
-    begin = 0
-    while begin < len(octets):
-        end = octets.find(b"\n", begin + PIECE) + 1 or len(octets)
-        yield octets[begin:end]
-        begin = end
+        yield body.part(begin, body.end)
 
 
 class _CanonicalLines:
     """Octets with CRLF at the end of each line, as they are signed (RFC 8551, section 3.1.1)."""
 
-    def __init__(self, octets: bytes) -> None:
-        self._octets = octets
+    def __init__(self, span: Span) -> None:
+        self._span = span
 
-    @property
+    @cached_property
     def is_same(self) -> bool:
         """Whether the octets are so already."""
-        return b"\n" not in self._octets.replace(b"\r\n", b"")
+        return all(piece.count(b"\n") == piece.count(b"\r\n") for piece in self._span.lines())
 
     def __iter__(self) -> Iterator[Octets]:
         if self.is_same:
-            yield self._octets
+            yield self._span.view
             return
-        for piece in _lines_in(self._octets):
+        for piece in self._span.lines():
             yield piece.replace(b"\r\n", b"\n").replace(b"\n", b"\r\n")
 
 
@@ -284,44 +299,56 @@ class Mail:
 
     def found(self, octets: bytes) -> Iterator[Found]:
         """Gives what is signed in these octets, which are a mail."""
-        begun = _begun(octets)
-        notes = ("readers differ on what lies before the first header",) if len(begun) < len(octets) else ()
-        yield from self._in_part("", begun, 0, _Around(notes=notes))
+        begin = before.end() if (before := _BEFORE.match(octets)) else 0
+        notes = ("readers differ on what lies before the first header",) if begin else ()
+        yield from self._in_part("", Span(octets, begin, len(octets)), 0, _Around(notes=notes))
 
-    def _in_part(self, where: str, octets: bytes, depth: int, around: _Around, usual: str = "text/plain") -> Iterator[Found]:
+    def _in_part(self, where: str, span: Span, depth: int, around: _Around, usual: str = "text/plain") -> Iterator[Found]:
         """Gives what is signed in a part, or why it cannot be taken apart. `usual` is what it is if it does not say it."""
         try:
-            yield from self._in_sound_part(where, octets, depth, around, usual)
+            yield from self._in_sound_part(where, span, depth, around, usual)
         except _Damaged as why:
-            yield Found(where or "mail", "mail", Class.DAMAGED, len(octets), note=str(why))
+            yield Found(where or "mail", "mail", Class.DAMAGED, span.length, note=str(why))
+        except TooLarge as why:
+            yield Found(where or "mail", "mail", Class.TOO_LARGE, span.length, note=str(why))
 
-    def _in_sound_part(self, where: str, octets: bytes, depth: int, around: _Around, usual: str) -> Iterator[Found]:
+    def _in_sound_part(self, where: str, span: Span, depth: int, around: _Around, usual: str) -> Iterator[Found]:
         if depth > _DEEPEST_PART:
-            yield Found(where, "mail", Class.TOO_LARGE, len(octets), note=f"parts are nested more than {_DEEPEST_PART} deep")
+            yield Found(where, "mail", Class.TOO_LARGE, span.length, note=f"parts are nested more than {_DEEPEST_PART} deep")
             return
-        self._source.budget.take(len(octets))
-        part = _part_of(octets, usual)
+        self._source.budget.take(span.length)
+        self._source.budget.take_steps()
+        part = _part_of(span, usual)
         around = around.within(part)
         if part.kind in _CMS_TYPES:
             message = _decoded(part)
             yield Found(where or "body", f"mail {part.kind}", Class.MESSAGE, len(message), message, note=around.note(_of_coding(part)))
         elif part.kind == "message/rfc822":
-            around = replace(around, has_others=False)
-            if part.coding not in ("7bit", "8bit", "binary"):
-                around = replace(around, notes=(*around.notes, "readers differ on a mail that is said to be encoded"))
-            yield from self._in_part(f"{where}/mail" if where else "mail", _decoded(part), depth + 1, around)
+            yield from self._in_forwarded(f"{where}/mail" if where else "mail", part, depth, replace(around, has_others=False))
+        elif part.kind == "message/partial":
+            yield Found(where or "body", "part of a mail", Class.NOT_LOOKED_INTO, part.body.length)
         elif part.kind.startswith("multipart/"):
             yield from self._in_parts(where, part, depth, around)
         else:
             yield from self._in_attachment(where, part, around)
 
+    def _in_forwarded(self, where: str, part: _Part, depth: int, around: _Around) -> Iterator[Found]:
+        if part.coding in _AS_IT_IS:
+            yield from self._in_part(where, part.body, depth + 1, around)
+            return
+        around = replace(around, notes=(*around.notes, "readers differ on a mail that is said to be encoded"))
+        with self._source.budget.holding(_most_decoded(part)):
+            yield from self._in_part(where, span_of(_decoded(part)), depth + 1, around)
+
     def _in_attachment(self, where: str, part: _Part, around: _Around) -> Iterator[Found]:
-        octets = _decoded(part)
-        self._source.budget.take(len(octets))
-        for it in self._search(in_memory(_filename(part) or "", octets, self._source.budget)):
-            if it.what not in (Class.TEXT, Class.NO_CANDIDATE):
-                notes = around.notes if it.what is Class.MESSAGE else ()
-                yield (it.with_content(None) if it.wants else it).noted(*notes, _of_coding(part)).within(where or "body")
+        with self._source.budget.holding(_most_decoded(part)):
+            octets = _decoded(part)
+            self._source.budget.take(len(octets))
+            self._source.budget.take_steps()
+            for it in self._search(in_memory(_filename(part) or "", octets, self._source.budget)):
+                if it.what not in (Class.TEXT, Class.NO_CANDIDATE):
+                    notes = around.notes if it.what is Class.MESSAGE else ()
+                    yield (it.with_content(None) if it.wants else it).noted(*notes, _of_coding(part)).within(where or "body")
 
     def _in_parts(self, where: str, part: _Part, depth: int, around: _Around) -> Iterator[Found]:
         if not part.boundary:
@@ -335,38 +362,39 @@ class Mail:
         some = list(_first(parts, 2))
         around = replace(around, has_others=around.has_others or len(some) > 1)
         usual = "message/rfc822" if part.kind == "multipart/digest" else "text/plain"  # RFC 2046, section 5.1.5
-        for number, octets in enumerate(chain(some, parts), 1):
-            yield from self._in_part(f"{where}.{number}" if where else f"part {number}", octets, depth + 1, around, usual)
+        for number, span in enumerate(chain(some, parts), 1):
+            yield from self._in_part(f"{where}.{number}" if where else f"part {number}", span, depth + 1, around, usual)
 
-    def _in_signed(self, where: str, parts: List[bytes], depth: int, around: _Around) -> Iterator[Found]:
+    def _in_signed(self, where: str, parts: List[Span], depth: int, around: _Around) -> Iterator[Found]:
         """Gives what signs the first part, and what is in that part."""
         around = replace(around, has_others=around.has_others or len(parts) > 2)
         if len(parts) != 2:
             yield Found(where or "body", "mail multipart/signed", Class.DAMAGED, 0, note="multipart/signed has not two parts")
-        signed = parts[0] if parts else b""
+        signed = parts[0] if parts else span_of(b"")
         own = f"{where}.1" if where else "part 1"
-        for number, octets in enumerate(parts[1:2], 2):
+        for number, span in enumerate(parts[1:2], 2):
             place = f"{where}.{number}" if where else f"part {number}"
-            part = _part_of(octets)
+            self._source.budget.take_steps(2)
+            part = _part_of(span)
             if part.kind in _OPENPGP_TYPES:
-                yield Found(place, "OpenPGP", Class.OTHER, len(octets), note="a mail signed by OpenPGP")
+                yield Found(place, "OpenPGP", Class.OTHER, span.length, note="a mail signed by OpenPGP")
             else:
                 yield _signing(place, part, own, signed, around.within(part))
         yield from self._in_part(own, signed, depth + 1, around)
 
 
-def _signing(where: str, part: _Part, own: str, signed: bytes, around: _Around) -> Found:
+def _signing(where: str, part: _Part, own: str, signed: Span, around: _Around) -> Found:
     """Returns what signs a part: with CRLF at the end of each line, or as it is if that is what was signed."""
     message, canonical = _decoded(part), _CanonicalLines(signed)
     bound, note = State.PARTLY if around.has_others else State.FITS, around.note(_of_coding(part))
-    found = Found(where, f"mail {part.kind}", Class.MESSAGE, len(message), message, Content(own, len(signed), canonical, bound, note), is_detached=True)
+    found = Found(where, f"mail {part.kind}", Class.MESSAGE, len(message), message, Content(own, signed.length, canonical, bound, note), is_detached=True)
     if canonical.is_same or _fits(found):
         return found
-    as_it_is = replace(found.content, pieces=Pieces(signed), note=around.note(_of_coding(part), _WITH_LF))
+    as_it_is = replace(found.content, pieces=Pieces(signed.view), note=around.note(_of_coding(part), _WITH_LF))
     return found._replace(content=as_it_is) if _fits(found._replace(content=as_it_is)) else found
 
 
-def _first(parts: Iterator[bytes], most: int) -> Iterator[bytes]:
+def _first(parts: Iterator[Span], most: int) -> Iterator[Span]:
     for _, part in zip(range(most), parts):
         yield part
 
@@ -378,7 +406,12 @@ def _filename(part: _Part) -> Optional[str]:
 
 def in_mail(source: Source, search: Search) -> Iterator[Found]:
     """Gives what is signed in a mail."""
-    yield from Mail(source, search).found(source.octets())
+    octets = source.octets()
+    with source.budget.holding(0 if source.is_in_memory else len(octets)):
+        if b"\n" in source.head or b"\r" not in source.head:
+            yield from Mail(source, search).found(octets)
+        else:
+            yield Found("mail", "mail", Class.NOT_LOOKED_INTO, len(octets), note="its lines end in a lone CR")
 
 
 def _line_in(octets: bytearray, at: int) -> Tuple[int, int]:
@@ -398,25 +431,34 @@ def _mails_in(file: BinaryIO, budget: Budget) -> Iterator[bytes]:
         octets += piece
         begin, end = _line_in(octets, at)
         while end >= 0:
-            if not is_first:
-                yield bytes(octets[1:begin])
-            is_first = False
+            mail = _copied(octets, begin)
             del octets[:end]
+            if not is_first:
+                yield mail
+            is_first, mail = False, b""
             begin, end = _line_in(octets, 1)
         at = begin - 1 if begin >= 0 else max(1, len(octets) - len(b"\nFrom "))
         if len(octets) > MOST_IN_MEMORY + PIECE:
             raise TooLarge(f"a mail has more than {MOST_IN_MEMORY:,} octets")
-    if (begin := _line_in(octets, at)[0]) >= 0:  # the last line, which has no end
-        if not is_first:
-            yield bytes(octets[1:begin])
+    yield from _last_mails_in(octets, at, is_first)
+
+
+def _last_mails_in(octets: bytearray, at: int, is_first: bool) -> Iterator[bytes]:
+    """Gives what is left of an mbox: a mail, and one that is empty if the last line has no end. It empties the octets."""
+    begin = _line_in(octets, at)[0]
+    mail = _copied(octets, begin if begin >= 0 else len(octets))
+    octets.clear()
+    if not is_first:
+        yield mail
+    if begin >= 0:
         yield b""
-    elif not is_first:
-        yield bytes(octets[1:])
 
 
-def _without_last_line(octets: bytes) -> bytes:
-    """Returns a mail without the empty line that an mbox has after it."""
-    return octets[: -len(end)] if (end := next((it for it in (b"\r\n", b"\n") if octets.endswith(2 * it)), b"")) else octets
+def _copied(octets: bytearray, end: int) -> bytes:
+    """Returns a mail, which begins after the first octet and ends at a place, without the empty line that an mbox has after it, by one copy."""
+    with memoryview(octets)[1:end] as view:
+        after = next((len(it) for it in (b"\r\n", b"\n") if view[-2 * len(it) :] == 2 * it), 0)
+        return bytes(view[: len(view) - after])
 
 
 def _fits(found: Found) -> bool:
@@ -431,17 +473,42 @@ def _fits(found: Found) -> bool:
 
 def in_mbox(source: Source, search: Search) -> Iterator[Found]:
     """Gives what is signed in the mails of an mbox. A line that begins with `>From ` may have been signed without the `>`."""
-    for number, octets in enumerate(_mails_in(source.begun(), source.budget), 1):
-        source.budget.take_mail()
+    for number, octets in enumerate(_mails_in(source.forward(), source.budget), 1):
+        source.budget.take_member()
         note = "readers differ on a line that begins with From" if _FROM.search(octets) else ""
-        for it in _in_one_of_a_box(Mail(source, search), _without_last_line(octets)):
+        for it in _in_one_of_a_box(source, search, octets):
             yield (it.noted(note) if it.what is Class.MESSAGE else it).within(f"mail {number}")
+        octets = b""  # or it would be kept while the next one is read
 
 
-def _in_one_of_a_box(mail: Mail, octets: bytes) -> Iterator[Found]:
+def _in_one_of_a_box(source: Source, search: Search, octets: bytes) -> Iterator[Found]:
     """Gives what is signed in a mail as it is, or as it was before `>` was put before `From `, if that is what was signed."""
-    unquoted = b"".join(_QUOTED_FROM.sub(rb"\1", it) for it in _lines_in(octets))
-    others = mail.found(unquoted) if unquoted != octets else iter(())
-    for it in mail.found(octets):
-        other = next(others, None)
-        yield other.noted(_WITHOUT_QUOTE) if other and not _fits(it) and _fits(other) else it
+    others, at = _in_unquoted(source, search, octets), 0
+    for number, it in enumerate(_in_held(source, search, octets)):
+        if it.content is None or _fits(it):
+            yield it
+            continue
+        other = next(islice(others, number - at, None), None)
+        at = number + 1
+        yield other.noted(_WITHOUT_QUOTE) if other and _fits(other) else it
+
+
+def _in_held(source: Source, search: Search, octets: bytes) -> Iterator[Found]:
+    try:
+        with source.budget.holding(len(octets)):
+            yield from Mail(source, search).found(octets)
+    except TooLarge as why:
+        yield Found("mail", "mail", Class.TOO_LARGE, len(octets), note=str(why))
+
+
+def _in_unquoted(source: Source, search: Search, octets: bytes) -> Iterator[Found]:
+    if _QUOTED_FROM.search(octets):
+        yield from _in_held(source, search, _unquoted(octets))
+
+
+def _unquoted(octets: bytes) -> bytes:
+    """Returns a mail without the `>` that an mbox has before `From ` at the beginning of a line."""
+    whole = io.BytesIO()
+    for lines in span_of(octets).lines():
+        whole.write(_QUOTED_FROM.sub(rb"\1", lines))
+    return whole.getvalue()

@@ -1,4 +1,4 @@
-"""Signed formats that hold no CMS which can be converted, and formats that are not looked into: they are named as what they are."""
+"""Signed formats that hold no CMS which can be converted: they are named as what they are."""
 
 from __future__ import annotations
 
@@ -10,14 +10,6 @@ from .found import Class, Found, is_message
 from .sources import Source
 
 _OPENPGP_ENDINGS = (".sig", ".gpg", ".pgp", ".asc")
-_ARCHIVES = {
-    b"7z\xbc\xaf\x27\x1c": "7z", b"Rar!\x1a\x07": "RAR", b"MSCF": "cab", b"!<arch>\ndebian-binary": "deb", b"!<arch>\n": "ar",
-}
-_OLE = b"\xd0\xcf\x11\xe0\xa1\xb1\x1a\xe1"
-_OLE_ENDINGS = {".msi": "MSI", ".msp": "MSI", ".msg": "Outlook message"}
-_PROGRAMS = (b"MZ", b"\x7fELF", b"#!")
-_END_OF_ZIP = re.compile(rb"(?s)PK\x05\x06.{8}(....)(....)..")
-_LONGEST_END = 22 + 0xFFFF  # octets of the end of a zip, with its comment
 _LENGTH = rb"(?:[\0-\x7f]|\x81.|\x82..|\x83...|\x84....|\x80)"
 _TIME_STAMPED_DATA = re.compile(rb"(?s)\x30" + _LENGTH + rb"\x06\x0b\x2a\x86\x48\x86\xf7\x0d\x01\x09\x10\x01\x1f\xa0")
 _EVIDENCE_RECORD = re.compile(rb"(?s)\x30" + _LENGTH + rb"\x02\x01\x01\x30" + _LENGTH + rb"(?=\x30" + _LENGTH + rb"\x06)")
@@ -34,7 +26,7 @@ def authenticode(source: Source) -> Optional[Found]:
     if head[:2] != b"MZ" or len(head) < 64:
         return None
     (at,) = struct.unpack_from("<I", head, 60)
-    header = head[at : at + 264]
+    header = (head if at + 264 <= len(head) else source.octets())[at : at + 264]
     if header[:4] != _PE or len(header) < 26:
         return None
     (magic,) = struct.unpack_from("<H", header, 24)
@@ -78,26 +70,6 @@ def _is_imprint(octets: bytes, at: int) -> bool:
     more = length & 0x7F if length & 0x80 else 0
     after = at + 2 + more + (int.from_bytes(octets[at + 2 : at + 2 + more], "big") if more else length)
     return octets[after : after + 1] in (b"\x04", b"\x24")
-
-
-def archive(source: Source) -> Optional[Found]:
-    """Returns what a file is if it is an archive or a document of a format that is not looked into."""
-    form = next((it for magic, it in _ARCHIVES.items() if source.head.startswith(magic)), None)
-    if source.head.startswith(_OLE):
-        form = _OLE_ENDINGS.get(source.name.lower()[-4:], "OLE document")
-    return Found("", form, Class.NOT_LOOKED_INTO, source.size) if form else None
-
-
-def self_extracting(source: Source) -> Optional[Found]:
-    """Returns what a program is after which a zip follows."""
-    if not source.head.startswith(_PROGRAMS):
-        return None
-    tail = source.tail(_LONGEST_END)
-    for it in _END_OF_ZIP.finditer(tail):
-        octets, at = (int.from_bytes(number, "little") for number in it.groups())
-        if octets and octets + at <= source.size:
-            return Found("", "self-extracting zip", Class.NOT_LOOKED_INTO, source.size)
-    return None
 
 
 APK_BLOCK = b"APK Sig Block 42"

@@ -33,6 +33,7 @@ _BLOCK = 512  # octets in which a tar is written
 _TIMES_A_HEADER = 16  # its octets count as so many that are read, as it takes so much longer
 _KEPT = {"path", "linkpath", "size", "charset", "hdrcharset"}  # of what a header says of all members
 _PLAIN_HEADER = re.compile(rb"(?s).{100}(?:[0-7]{7}\0){3}([0-7]{11})[\0 ][0-7]{11}[\0 ][0-7]{6}\0 0.{100}ustar(?:\x0000|  \0).{64}(?:[0-7]{7}\0|\0{8}){2}")
+_SUM_OF_A_HEADER = re.compile(rb" *([0-7]{3,6})[\0 ]")
 _HEADERS_WITH_VALUES = (
     *(tarfile.GNUTYPE_LONGNAME, tarfile.GNUTYPE_LONGLINK),
     *(tarfile.XHDTYPE, tarfile.XGLTYPE, tarfile.SOLARIS_XHDTYPE),
@@ -237,7 +238,13 @@ def in_packed(source: Source, packing: Packing, search: Search, in_a_tar: Search
 
 def is_tar(source: Source) -> bool:
     """Whether a file begins as a tar, or is named so."""
-    return source.head[257:262] == b"ustar" or source.name.lower().endswith(".tar")
+    return source.head[257:262] == b"ustar" or source.name.lower().endswith(".tar") or _is_old_tar(source.head)
+
+
+def _is_old_tar(head: bytes) -> bool:
+    """Whether a header without a mark begins a file: it has its own sum."""
+    said = _SUM_OF_A_HEADER.match(head, 148)
+    return bool(said) and len(head) >= _BLOCK and sum(head[:148]) + 8 * 0x20 + sum(head[156:_BLOCK]) == int(said[1], 8)
 
 
 def _sum_of(octets: bytes) -> int:

@@ -27,6 +27,7 @@ _SUBFILTER = re.compile(rb"/SubFilter\s*/([A-Za-z0-9._#-]{1,64})")
 _BLANKS = b" \t\r\n\f\0"
 _EOF = b"%%EOF"
 BEGIN = b"%PDF-"
+_STEPS = 4  # that a PDF costs
 BEGINS_WITHIN = 1024  # octets in which a PDF may begin
 MOST_RANGES = 10_000  # of one file that are read
 MOST_OF_A_HOLE = 100  # that leave out one hole
@@ -268,6 +269,7 @@ def _in_attachment(place: str, found: Iterator[Found]) -> Iterator[Found]:
 def in_pdf(source: Source, search: Search) -> Iterator[Found]:
     """Gives each signature of a PDF in the order of the file, of all its revisions, then how many ByteRanges cannot be used, what is in the files that
     are attached, and last the PDF."""
+    source.budget.take_steps(_STEPS)
     pdf = _Pdf(source)
     for some in list(pdf.ranges.by_hole.values()):
         yield from pdf.in_hole(sorted(some.values(), key=lambda it: it.distance))

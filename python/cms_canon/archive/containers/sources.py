@@ -8,7 +8,7 @@ from __future__ import annotations
 
 import io
 from contextlib import contextmanager
-from typing import BinaryIO, Iterator, Optional
+from typing import Any, BinaryIO, Iterator, Optional, Tuple
 
 import cms_canon
 
@@ -21,10 +21,12 @@ MOST_MEMBERS = 500_000  # of any file, with those of members inside it, and so m
 OCTETS_OF_A_MEMBER = 128
 MOST_SMALL = 20_000  # members of the zips in any file that have so many members that these have fewer octets than this:
 OCTETS_OF_A_SMALL_MEMBER = 512  # with both headers, since each member takes some 50 microseconds
-MOST_SMALL_MAILS = 20_000  # mails, and parts of mails, in any file, and one more for so many octets, since each takes some 80 microseconds:
-OCTETS_OF_A_SMALL_MAIL = 512
 MOST_PARTS = 100_000  # sections, lines and elements of the manifests in any file, and likewise
 OCTETS_OF_A_PART = 8
+MOST_STEPS = 20_000  # which parts of mails, messages in PEM and PDFs in any file cost, or one for so many octets: each takes some 50 to 90 microseconds
+OCTETS_OF_A_STEP = 512
+MOST_FORWARD = 64 << 20  # octets of a member that are read for its end
+MOST_HELD = 32 << 20  # octets of mails inside one another that are kept at once, with twice those of the largest
 DEEPEST = 4  # packed files inside one another
 DEEPEST_MAIL = 20  # mails inside one another
 TEXT = bytes({*range(0x20, 0x7F), *range(0x80, 0x100), *b"\t\n\r\f\b\x1b"})  # octets that a text may have
@@ -50,8 +52,8 @@ class Budget:
         self._most = self._octets = FREE + TIMES_THE_SIZE * size
         self._most_members = self._members = MOST_MEMBERS + size // OCTETS_OF_A_MEMBER
         self._small = MOST_SMALL
-        self._most_mails = self._mails = MOST_SMALL_MAILS + size // OCTETS_OF_A_SMALL_MAIL
         self._most_parts = self._parts = MOST_PARTS + size // OCTETS_OF_A_PART
+        self._steps = self._held = self._largest = 0
 
     def take(self, octets: int) -> None:
         """Takes so many octets. Raises `TooMuch` if they are not left."""
@@ -71,17 +73,31 @@ class Budget:
         if self._small < 0:
             raise TooLarge(f"the file has more than {MOST_SMALL:,} members of zips with less than {OCTETS_OF_A_SMALL_MEMBER} octets each")
 
-    def take_mail(self) -> None:
-        """Takes one mail or part of a mail. Raises `TooMuch` if none is left."""
-        self._mails -= 1
-        if self._mails < 0:
-            raise TooMuch(f"it has more than {self._most_mails:,} mails and parts of them")
-
     def take_parts(self, parts: int) -> None:
         """Takes so many sections, lines or elements of manifests. Raises `TooMuch` if they are not left."""
         self._parts -= parts
         if self._parts < 0:
             raise TooMuch(f"its manifests have more than {self._most_parts:,} parts")
+
+    def take_steps(self, steps: int = 1) -> None:
+        """Takes what so many small parts cost. Raises `TooMuch` if that is more than the octets that were read may cost."""
+        self._steps += steps
+        most = max(MOST_STEPS, (self._most - self._octets) // OCTETS_OF_A_STEP)
+        if self._steps > most:
+            raise TooMuch(f"its mails, PDFs and messages in PEM have more than {most:,} small parts")
+
+    @contextmanager
+    def holding(self, octets: int) -> Iterator[None]:
+        """Counts so many octets as kept in memory meanwhile. Raises `TooLarge` if those are too many, with what they are in."""
+        self._largest = max(self._largest, octets)
+        most = MOST_HELD + 2 * self._largest
+        if self._held + octets > most:
+            raise TooLarge(f"with the mails that it is in, it has more than {most:,} octets")
+        self._held += octets
+        try:
+            yield
+        finally:
+            self._held -= octets
 
     def read(self, file: BinaryIO, most: int) -> bytes:
         """Reads the rest of a file, of at most so many octets, by pieces. Raises `TooLarge` if there are more."""
@@ -94,6 +110,23 @@ class Budget:
         return whole.getvalue()
 
 
+class _Forward(io.RawIOBase):
+    """Octets that were read already, and the rest of the file that they are of."""
+
+    def __init__(self, head: bytes, rest: BinaryIO) -> None:
+        self._head = head
+        self._rest = rest
+
+    def readable(self) -> bool:
+        return True
+
+    def readinto(self, buffer: Any) -> int:
+        octets = self._head[: len(buffer)] or self._rest.read(len(buffer))
+        self._head = self._head[len(octets) :]
+        buffer[: len(octets)] = octets
+        return len(octets)
+
+
 class Source:
     """A file or a member: its beginning is read at once, and all of it only if it is needed."""
 
@@ -104,6 +137,7 @@ class Source:
         self.budget = budget
         self._file = file
         self._is_seekable = is_seekable
+        self.is_in_memory = isinstance(file, io.BytesIO)
         self.head = b""
         while len(self.head) < HEAD and (piece := file.read(HEAD - len(self.head))):
             budget.take(len(piece))
@@ -132,6 +166,29 @@ class Source:
             last = (last + piece)[-most:]
         return last
 
+    def ends(self, first: int, last: int) -> Tuple[bytes, Optional[bytes]]:
+        """Returns the first and the last octets, at most so many. What is read forward cannot be read again, and has None for the last octets if it has
+        more than are read for that."""
+        if self._octets is not None:
+            return self._octets[:first], self._octets[-last:]
+        if self._is_seekable:
+            self._file.seek(0)
+            begin = self._file.read(first)
+            self.budget.take(len(begin))
+            return begin, self.tail(last)
+        begin = end = self.head
+        octets = len(begin)
+        while piece := self._file.read(PIECE):
+            self.budget.take(len(piece))
+            octets += len(piece)
+            if len(begin) < first:
+                begin = (begin + piece)[:first]
+            end = (end + piece)[-last:]
+            if octets > MOST_FORWARD:
+                return begin, None
+        self.size = octets
+        return begin, end
+
     def _read_at_once(self) -> bytes:
         """Returns all of a file whose size is known, of which pieces would take twice the memory."""
         self._file.seek(0)
@@ -149,6 +206,10 @@ class Source:
             return io.BytesIO(self.octets())
         self._file.seek(0)
         return self._file
+
+    def forward(self) -> BinaryIO:
+        """Returns a file that reads from its beginning, and keeps nothing of it."""
+        return self.begun() if self._is_seekable or self._octets is not None else io.BufferedReader(_Forward(self.head, self._file))
 
     @contextmanager
     def aside(self) -> Iterator[None]:

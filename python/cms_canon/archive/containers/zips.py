@@ -22,7 +22,7 @@ from .sources import MOST_IN_MEMORY, PIECE, Budget, Ended, Source, TooLarge
 Search = Callable[[Source], Iterator[Found]]
 
 ENDINGS = (".zip", ".jar", ".war", ".apk", ".xpi", ".asics", ".asice", ".scs", ".sce")
-MAGICS = (b"PK\3\4", b"PK\5\6")
+MAGICS = (b"PK\3\4", b"PK\5\6", b"PK\7\x08PK\3\4", b"PK00PK\3\4")  # the last two are of zips that were split, or could have been
 MOST_IN_DIRECTORY = 128 << 20  # octets of the list of members, which is read at once
 MOST_IN_ZIP = 80_000  # members of one zip, for each of which zipfile makes an object
 MOST_OF_A_BLOCK = 1 << 20  # octets before the list of members in which it is looked for which schemes of APK there are
@@ -32,6 +32,8 @@ _OCTETS_OF_A_NAME = 64  # that count as read if a signature is compared with a m
 _META_INF = "META-INF/"
 _WITH_MEANING = (_META_INF, "ANDROIDMANIFEST.XML")
 _OOXML = re.compile(r"_xmlsignatures/[^/]+\.xml\Z", re.I)
+_COSE = re.compile(r"META-INF/cose\.sig\Z", re.I)
+_MACROS = re.compile(r"(?:[^/]+/)?vbaProjectSignature(?:Agile|V3)?\.bin\Z", re.I)
 _ODF = "META-INF/documentsignatures.xml"
 _PACKAGE_SIGNATURE = ".signature.p7s"  # of a NuGet package
 _OF_PACKAGE = "readers differ on what .signature.p7s covers: it holds a digest of the package, which is not compared"
@@ -43,7 +45,7 @@ _ENTRY = struct.Struct("<4s4xH18xHHH")  # of the list of members: the mark, the 
 
 def is_zip(source: Source) -> bool:
     """Whether a file begins as a zip, or is named so."""
-    return source.head[:4] in MAGICS or source.name.lower().endswith(ENDINGS)
+    return source.head.startswith(MAGICS) or source.name.lower().endswith(ENDINGS)
 
 
 def _refuse_many(file: BinaryIO, end: End, source: Source) -> None:
@@ -325,6 +327,8 @@ def _in_member(
 def _in_unsigning(whole: _Zip, name: str, info: zipfile.ZipInfo, search: Search) -> Iterator[Found]:
     if _OOXML.match(name) or name == _ODF or asic.XML_SIGNATURES.match(name):
         yield Found(name, f"XML signature in {whole.form}", Class.OTHER, info.file_size)
+    elif _COSE.match(name) or _MACROS.match(name):
+        yield Found(name, "COSE signature" if _COSE.match(name) else "signature of macros", Class.OTHER, info.file_size)
     else:
         yield from _in_other(whole, name, info, search)
 
