@@ -6,20 +6,20 @@ Most marks are those of the list of `file`. A file is searched only if it is a p
 from __future__ import annotations
 
 import re
-from collections import defaultdict
-from typing import DefaultDict, Iterator, List, NamedTuple, Optional, Pattern, Tuple
+from typing import Iterator, NamedTuple, Optional, Pattern, Tuple
 
 from .found import Class, Found
 from .sources import Source, TooLarge
 
-OLE = b"\xd0\xcf\x11\xe0\xa1\xb1\x1a\xe1"
-PROGRAMS = (b"MZ", b"\x7fELF", b"#!", b"\xcf\xfa\xed\xfe", b"\xce\xfa\xed\xfe", b"\xfe\xed\xfa\xcf", b"\xfe\xed\xfa\xce", b"\xca\xfe\xba\xbe\0\0\0")
+_OLE = b"\xd0\xcf\x11\xe0\xa1\xb1\x1a\xe1"
+_APPLE = (b"\xcf\xfa\xed\xfe", b"\xce\xfa\xed\xfe", b"\xfe\xed\xfa\xcf", b"\xfe\xed\xfa\xce", b"\xca\xfe\xba\xbe\0\0\0")  # the last is of Java too
+_PROGRAMS = (b"MZ", b"\x7fELF", b"#!", *_APPLE)
 _OLE_ENDINGS = {".msi": "MSI", ".msp": "MSI", ".msg": "Outlook message"}
 _ISO_AT, _ISO = 0x8001, (b"CD001", b"BEA01", b"NSR02", b"NSR03")
 _DISK_IMAGE_AT, _DISK_IMAGE = -512, b"koly"
 _MODULE_END = b"~Module signature appended~\n"
 _APPLE_SIGNATURE = b"\xfa\xde\x0c\xc0"
-_INSIDE = {  # programs, archives of these formats
+_INSIDE = {  # a program that extracts itself
     "7z": re.compile(rb"7z\xbc\xaf\x27\x1c\0"),
     "RAR": re.compile(rb"Rar!\x1a\x07\x01?\0"),
     "cab": re.compile(rb"(?s)MSCF\0{4}.{16}\x03\x01"),
@@ -51,16 +51,14 @@ _MARKS = (
     *(_mark("7z", b"7z\xbc\xaf\x27\x1c"), _mark("RAR", b"Rar!\x1a\x07"), _mark("cab", b"MSCF")),
     *(_mark("deb", b"!<arch>\ndebian-binary"), _mark("ar", b"!<arch>\n"), _mark("RPM", b"\xed\xab\xee\xdb"), _mark("xar", b"xar!")),
     *(_mark("cpio", b"0707", rb"0[12][0-9A-Fa-f]{104}|07[0-7]{70}"), _mark("cpio", b"\xc7\x71", rb".{18}[\2-\xff][\0-\3]")),
-    *(_mark("compress", b"\x1f\x9d"), _mark("lzip", b"LZIP\1"), _mark("lzop", b"\x89LZO\0\r\n\x1a\n"), _mark("lrzip", b"LRZI")),
+    *(_mark("compress", b"\x1f\x9d", rb"[\x09-\x10\x89-\x90]"), _mark("lzip", b"LZIP\1"), _mark("lzop", b"\x89LZO\0\r\n\x1a\n"), _mark("lrzip", b"LRZI")),
     *(_mark("LZ4", b"\x04\x22\x4d\x18"), _mark("LZ4", b"\x02\x21\x4c\x18"), _mark("LZMA", b"\x5d\0\0", rb"..(?:\xff{8}|.{5}\0{3})")),
-    *(_mark("WARC", b"WARC/"), _mark("FDF", b"%FDF-"), _mark("ARJ", b"\x60\xea"), _mark("CRX", b"Cr24"), _mark("WIM", b"MSWIM\0\0\0")),
+    *(_mark("WARC", b"WARC/"), _mark("FDF", b"%FDF-"), _mark("ARJ", b"\x60\xea", rb".[\0-\x0a]"), _mark("CRX", b"Cr24"), _mark("WIM", b"MSWIM\0\0\0")),
     *(_mark("TNEF", b"\x78\x9f\x3e\x22"), _mark("Outlook folder", b"!BDN"), _mark("Outlook Express folder", b"\xcf\xad\x12\xfe")),
     *(_mark("SquashFS", b"hsqs"), _mark("CHM", b"ITSF"), _mark("VHDX", b"vhdxfile"), _mark("VMDK", b"KDMV"), _mark("QCOW", b"QFI\xfb")),
 )
 _IN_HEAD = (("LHA", 2, b"-lh"), ("ACE", 7, b"**ACE**"))
-_BY_FIRST: DefaultDict[int, List[Mark]] = defaultdict(list)
-for _it in _MARKS:
-    _BY_FIRST[_it.begin[0]].append(_it)
+_BY_FIRST = {it.begin[0]: [other for other in _MARKS if other.begin[0] == it.begin[0]] for it in _MARKS}
 
 
 def _named(form: str, size: int, what: Class = Class.NOT_LOOKED_INTO, note: str = "") -> Found:
@@ -73,12 +71,12 @@ def by_beginning(source: Source) -> Optional[Found]:
     for it in _BY_FIRST.get(head[0], ()) if head else ():
         if head.startswith(it.begin) and it.rest.match(head, len(it.begin)):
             return _named(it.form, source.size)
-    return _named(_OLE_ENDINGS.get(source.name.lower()[-4:], "OLE document"), source.size) if head.startswith(OLE) else None
+    return _named(_OLE_ENDINGS.get(source.name.lower()[-4:], "OLE document"), source.size) if head.startswith(_OLE) else None
 
 
 def in_program(source: Source) -> Optional[Found]:
     """Returns what a program is that is signed, in which an archive lies, or which has more octets than are read as a whole."""
-    if not source.head.startswith(PROGRAMS):
+    if not source.head.startswith(_PROGRAMS):
         return None
     try:
         return _in_octets(source.octets())
@@ -90,7 +88,7 @@ def in_program(source: Source) -> Optional[Found]:
 def _in_octets(octets: bytes) -> Optional[Found]:
     if octets.endswith(_MODULE_END):
         return _named("signature of a kernel module", len(octets), Class.OTHER)
-    if not octets.startswith((b"MZ", b"\x7fELF", b"#!")) and _APPLE_SIGNATURE in octets:
+    if octets.startswith(_APPLE) and _APPLE_SIGNATURE in octets:
         return _named("signature of a program of Apple", len(octets), Class.OTHER)
     form = next((form for form, mark in _INSIDE.items() if mark.search(octets)), "zip" if ends_as_zip(octets) else "")
     return _named(f"self-extracting {form}", len(octets)) if form else _in_script(octets)
