@@ -619,6 +619,14 @@ def packed(make) -> Dict[str, Case]:
     return cases
 
 
+def long_members(make) -> Dict[str, Case]:
+    """Returns packed tars of a member that is not unpacked at once."""
+    long = hashlib.shake_128(b"long").digest(300_000)
+    members = {"long": long, "long.p7s": make.cms(long)}
+    wanted = Case(b"", "container", {"long.p7s": FITS}, others={"long": "not a candidate"})
+    return {f"long.tar.{ending}": wanted._replace(octets=tarred(members, f"w:{ending}")) for ending in ("gz", "bz2", "xz")}
+
+
 def cut_tars(make) -> Dict[str, Case]:
     """Returns tars that end too early, or have two members of one name: a message in them is found all the same."""
     der = make.cms(DOCUMENT)
@@ -1081,7 +1089,7 @@ def judge_copy(home: Path) -> None:
     given = [int(it) for it in sys.argv[1:3]]
     spoilt, seed = [*given, *[SPOILT, SEED][len(given) :]]
     random, folder, make, cases = Random(seed), home / "files", Maker(home / "made"), {}
-    for some in (files_of_their_own, other_files, mails, other_mails, other_zips, pdfs, early_pdfs, containers, made_jars, jars, packed, cut_tars):
+    for some in (files_of_their_own, other_files, mails, other_mails, other_zips, pdfs, early_pdfs, containers, made_jars, jars, packed, long_members, cut_tars):
         cases.update(some(make))
     judge_cases(archive, folder / "whole", cases)
     judge_second_opinion(cases)

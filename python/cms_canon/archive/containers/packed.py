@@ -174,11 +174,13 @@ class _Forward(io.RawIOBase):
 
     def read(self, size: int = -1) -> bytes:
         size = PIECE if size < 0 else min(size, PIECE)
-        octets, self._ahead = self._ahead[:size], self._ahead[size:]
-        if len(octets) < size:
-            more = self._file.read(size - len(octets))
+        pieces, self._ahead = [self._ahead[:size]], self._ahead[size:]
+        missing = size - len(pieces[0])
+        while missing and (more := self._file.read(missing)):  # what unpacks may return fewer octets than it is asked for, and tarfile takes that for the end
             self._budget.take(len(more))
-            octets += more
+            pieces.append(more)
+            missing -= len(more)
+        octets = b"".join(pieces)
         self._at += len(octets)
         self.last = octets
         return octets
