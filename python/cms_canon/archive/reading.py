@@ -29,7 +29,7 @@ from .judging import Facts, Signer, Time, judged
 Value = Union[str, int, bool, None]
 Row = Dict[str, Any]
 
-READER = 6  # raised with each change of the command or the library by which a file would get other rows, and with no other
+READER = 5  # raised with each change of the command or the library by which a file would get other rows, and with no other
 MOST = (1 << 63) - 1  # the largest number that a store takes
 LONGEST = 1200  # octets of a name in a store: an index of PostgreSQL takes 2,704, a path and the name of a member together
 NO_PATH = "no path is named so"

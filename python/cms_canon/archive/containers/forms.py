@@ -7,7 +7,7 @@ memory of the process is limited while it works: an object stream may be packed 
 from __future__ import annotations
 
 import resource
-from contextlib import contextmanager
+from contextlib import contextmanager, suppress
 from dataclasses import dataclass
 from decimal import Decimal
 from io import BytesIO
@@ -94,6 +94,12 @@ def _little_memory() -> Iterator[None]:
         resource.setrlimit(resource.RLIMIT_DATA, before)
 
 
+def _fail_once(pikepdf: Any) -> None:
+    """Has the parser raise an error. The first one in a thread takes memory, and ends the process if there is none."""
+    with suppress(pikepdf.PdfError):
+        pikepdf.open(BytesIO())
+
+
 def form_of(octets: bytes, budget: Budget) -> Form:
     """Returns the signatures of the form, as far as a parser reads them, and why these may not be all."""
     try:
@@ -104,6 +110,7 @@ def form_of(octets: bytes, budget: Budget) -> Form:
     attached: List[Tuple[str, Any, Tuple[str, ...]]] = []
     pdf, why, has_others = None, "", False
     named = named_in(octets, MOST_PACKED)
+    _fail_once(pikepdf)
     with _little_memory():
         try:
             pdf = pikepdf.open(BytesIO(octets), attempt_recovery=False)  # or it would look for objects in all octets
