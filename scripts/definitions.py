@@ -1,27 +1,69 @@
-"""The tables of docs/DEFINITIONS.md: what each definition says, from the comment that begins with three dashes right above it in specs/.
+"""The page of definitions, which scripts/proof writes: what each says, from the comment that begins with three dashes right above it in specs/.
 
     --- `IsFramed b d`: `b` is an element at depth `d`, which is at most 64 [ours]
     --- | its identifier is not 00 and has its form, and its length octets are the shortest
     ---   [X.690, 10.1]
 
-The first line names the definition and says what it is, and in brackets its place in a standard. A line that begins with `|` is a row of its
-own, and a sentence of its own, and one that is indented goes on. A comment names what is below it, with no more arguments than that takes, and
-those in a record name each of its fields, or none: tests/lint_repo.py checks both. A mark in the document has the definitions of a table in the
-order in which they are read; those of a file that no mark names come at the end of the last table whose mark names the file.
+The first line names the definition and says what it is, and in brackets its place in a standard. A line that begins with `|` is a sentence of its
+own, and one that is indented goes on. A comment names what is below it, with no more arguments than that takes, and those in a record name each of
+its fields, or none: tests/lint_repo.py checks both. A public definition that no such comment names has the words of the comment of two dashes
+right above it. The definitions are in the order of crates.txt and of the names of files, those of a file as they stand in it.
 """
 
 import re
 from pathlib import Path
 from typing import Dict, Iterator, List, NamedTuple, Set, Tuple
 
+import crates
 from antt import Definition, definitions_of
-from texts import head, rows_of
+from texts import head, row
 
 TOP = Path(__file__).resolve().parent.parent
-PAGE = "docs/DEFINITIONS.md"
 DEFINED = re.compile(r" *(?:(?:abbrev|unfoldable)(?: pub)?|(?:pub )?(?:record|data)) (\S+)|  +pub (\w+) :")
-MARK = re.compile(r"<!-- definitions, ([^\n]*)\n(.*?)-->\n.*?<!-- the end of definitions -->", re.S)
 SAID = re.compile(r"(.*?)(?: \[([^][]*)\])?")
+
+INTRODUCTION = """# Definitions
+
+Each definition by its name, what it says, and in brackets its place in the standard. `scripts/proof` writes this page from the comments in
+`crates/NAME/specs/`. Otherwise a public contract names only types of the library, and definitions of std, of `clap` and of `jiff_core`. No public
+contract cites those in `specs/internal/`, most of which are described only there. docs/HEADLINE.md has the theorem, and all that it rests on, from
+below; docs/TRUST.md says on which definitions the exact clause `refines` rests.
+
+- An **octet** is a number below 256, and is written in hexadecimal. An **octet list** is a finite list of octets, counted from 0.
+- **X.690** is ITU-T X.690, the encoding rules of ASN.1.
+- **Ours** marks what is in no standard: that length octets are at most eight after the first, and a high tag number has at most four octets; that
+  countersignatures are nested at most four deep, and the constructed encodings of a string at most eight deep; that the limit of octets is at most
+  2^40; that an OBJECT IDENTIFIER has text only if its subidentifiers are below 2^64; that a BIT STRING has the primitive form only; and that opaque
+  values have the framing of DER, and are at most 64 elements deep.
+- `b`, `c`, `o` and `p` are octet lists, `v` and `w` values, `R` and `S` spellings, and `m` is the rules: BER, BER with minimal lengths, or DER.
+- `k` is the octets that a source kept, and `x` spans of them; `old` and `new` are what a call found and what it left; `f` is a fault
+  or a reader; `r` is the result of a call. `K` says which contents octets a reason is for.
+- A **frame** is an encoding of which only the framing is considered. An **element** has one identifier octet. An **opaque value** is kept octet for
+  octet, and only its framing is judged.
+- A **field** is one element. **Contents** are the fields between a header and its end. A type that is read and written has three ghost members:
+  `Value`, the type of its values; `grammar`, which describes them; and `value k x`, the value that the spans `x` show in the kept octets `k`.
+- A **grammar** of values of the type `V`, `Grammar V`, describes a field or contents. A record is one grammar, made from those of its parts, and each
+  fact of it is computed from theirs. A name in brackets, as [`Tagged`], is the type of the code that reads and writes by a grammar. An absent part is
+  the same as another absent part only; that rule is ours.
+- The parts of a type are **distinct** if each identifier octet may be that of a field, a part that may be absent begins with other octets than what
+  follows it, and the two alternatives of a choice, of fields or of contents, begin with different octets.
+- A **record** of a standard has the type of its value, a projection for each part, and one grammar, in the words of its ASN.1:
+  `content_info.spelled m` is how it is spelled by the rules `m`, `content_info.same` which two are the same, and `content_info.reader` its pure reader.
+  In a value, an INTEGER and an OBJECT IDENTIFIER are their contents octets, an OCTET STRING its octets, named bits a list of bits, and what is opaque
+  its whole encoding. A borrowed record has as its model the value that it lends, so that a contract names the record itself.
+- A **pure reader** is a function of the octets to come. It reads from left to right, and gives the value, or the first refusal that it meets, with the
+  number of octets consumed by then. The **exact clause** says by it which value a call returns, or which refusal at which octet. The relations, as
+  `Frame`, do not mention pure readers; it is proved that they agree.
+- A `Bound` says how contents end: `end` is the innermost definite end, `indefinite` says that `00 00` ends these contents, and `strict` says that they
+  are inside signed attributes. There is room for octets if they pass neither the innermost definite end nor the limit.
+- What a reader has left, and what a writer took, is `Some` octets if the type says which, as readers and writers over memory do. It is `None` if the
+  type does not say; `Consumes` and `Appends` of std then claim nothing.
+- A **row** says where in a message the octets of one field lie. `entries_of` lists the fields of a message without its octets, and `Show` ties rows
+  to them. The kind of a field is a constant of `cms_rows/src/kinds.rt`, which `c/cms_canon.h` has with its ASN.1. The fields of a field come right after
+  it, with a level that is one more.
+- `tail` says whether octets may follow a message (`Leave`) or not (`Refuse`), and `with_rest` whether what follows it is read too: as detached content,
+  or as data that were time-stamped. An **answer** of a command is a status and a text.
+"""
 
 
 class Said(NamedTuple):
@@ -78,16 +120,6 @@ def comments_in(file: Path) -> Iterator[Comment]:
             raise SystemExit(f"{file.relative_to(TOP)}: a comment of three dashes is above no definition: {above[0]}")
 
 
-def comments_of(file: Path) -> Dict[str, List[Said]]:
-    """Returns the rows that the comments in a file have, by the names of the definitions below them."""
-    found: Dict[str, List[Said]] = {}
-    for rows, name, _ in comments_in(file):
-        starts = [n for n, it in enumerate(rows) if it.name] + [len(rows)]
-        for begin, end in zip(starts, starts[1:]):
-            found[first_name(rows[begin].name, name.strip("◌"))] = rows[begin:end]
-    return found
-
-
 def things_in(file: Path) -> Dict[Tuple[str, str], Definition]:
     """Returns what comments may be above: the definitions in a file, and the fields of its records, by the names of these."""
     things: Dict[Tuple[str, str], Definition] = {}
@@ -128,49 +160,59 @@ def named_in(row: Said) -> List[List[str]]:
     return [it.split() for it in re.findall(r"`([^`]*)`", row.name)]
 
 
-def first_name(names: str, defined: str) -> str:
-    """Returns the name under which a mark has a row: that of the definition, unless several rows are above one."""
-    words = [re.split(r"[ :]", it)[0] for it in re.findall(r"`([^`]*)`", names)]
-    return defined if defined in words or re.search(rf" {re.escape(defined)} ", names) else words[0]
+def plain_words(definition: Definition) -> str:
+    """Returns the words of the comment of two dashes right above a definition, if it is public and has such a comment."""
+    above = [it.strip() for it in definition.lines[: definition.above] if it.lstrip().startswith("--")]
+    is_public = re.match(r" *(?:(?:abbrev|unfoldable) pub|pub (?:record|data)) ", definition.lines[definition.above])
+    return " ".join(it.removeprefix("--").strip() for it in above) if is_public else ""
 
 
-def marked(text: str) -> List[Tuple[str, str]]:
-    """Returns the file and the name of each definition that a mark has."""
-    found = []
-    for line in re.sub(r"\n    +", " ", text).splitlines():
-        file, _, names = line.strip().partition(": ")
-        found += [(file, name) for name in names.split()]
-    return found
+def described(file: Path) -> Iterator[Said]:
+    """Yields the rows that the comments in a file have, in the order of what they are above."""
+    comments = {(record, name): rows for rows, name, record in comments_in(file)}
+    named = {it[0] for rows in comments.values() for row in rows for it in named_in(row)}
+    for (record, name), it in things_in(file).items():
+        if (record, name) in comments:
+            yield from comments[record, name]
+        elif not record and name not in named and (words := plain_words(it)):
+            yield row_of(f"`{name}`: {words}")
 
 
-def table_of(kind: str, rows: List[Said]) -> Iterator[str]:
-    has_place = any(it.place for it in rows)
-    yield from head(*kind.split(", "), *(["place"] if has_place and kind.count(",") == 1 else []))
-    for it in rows:
-        yield from rows_of(*(it if has_place else it[:2]))
+def table_of(file: Path) -> List[str]:
+    """Returns the table of a file: a row for each name, with all that is said of it. It has no lines if nothing is."""
+    rows: List[List[str]] = []
+    for it in described(file):
+        words = (f"{it.says} [{it.place}]" if it.place else it.says).replace("|", "\\|")
+        if it.name or not rows:
+            rows.append([it.name, words])
+        else:
+            rows[-1][1] += (" " if re.search(r"[,;]( \[[^]]*\])?$", rows[-1][1]) else "<br>") + words
+    return [*head("name", "what it says"), *(row(*it) for it in rows)] if rows else []
 
 
-def files() -> Dict[str, str]:
-    """Returns the text of the page, by its name. Raises `SystemExit` if no mark names the file of a definition, or a mark names one that has no
-    comment, or two name the same."""
-    comments = {file: comments_of(file) for file in sorted(TOP.glob("crates/*/specs/**/*.antt"))}
-    known = {(name_of(file), name): rows for file, found in comments.items() for name, rows in found.items()}
-    text = (TOP / PAGE).read_text()
-    used = [it for mark in MARK.finditer(text) for it in marked(mark[2])]
-    last = {file: mark.start() for mark in MARK.finditer(text) for file, _ in marked(mark[2])}
+def introduction_of(file: Path) -> str:
+    """Returns the comment that a file begins with."""
+    lines = file.read_text(encoding="utf-8").splitlines()
+    ends = [at for at, line in enumerate(lines) if not line.startswith("-- ")]
+    return " ".join(it.removeprefix("-- ") for it in lines[: ends[0]])
 
-    def filled(mark: "re.Match[str]") -> str:
-        names = marked(mark[2]) + [it for it in known if it not in used and last.get(it[0]) == mark.start()]
-        rows = [row for it in names for row in known.get(it, [])]
-        return f"<!-- definitions, {mark[1]}\n{mark[2]}-->\n\n" + "\n".join(table_of(mark[1], rows)) + "\n\n<!-- the end of definitions -->"
 
-    page = MARK.sub(filled, text)
-    wrong = [f"{PAGE}: {file} has no comment of three dashes for {name}" for file, name in used if (file, name) not in known]
-    wrong += [f"{PAGE} has no row for {name} of {file}" for file, name in known if file not in last]
-    wrong += [f"{PAGE} has {name} of {file} twice" for file, name in set(used) if used.count((file, name)) > 1]
-    if wrong:
-        raise SystemExit("\n".join(wrong))
-    return {PAGE: page}
+def sections() -> Iterator[str]:
+    """Yields the parts of the page: a heading for each crate, and for each of its files a heading, its introduction and its table."""
+    for crate in crates.names():
+        specs = TOP / "crates" / crate / "specs"
+        tables = {it: table_of(it) for it in sorted(specs.glob("**/*.antt"))}
+        yield from [f"## `{crate}`"] * any(tables.values())
+        for file, table in tables.items():
+            if table:
+                yield f"### `{crate}/specs/{file.relative_to(specs)}`"
+                yield introduction_of(file)
+                yield "\n".join(table)
+
+
+def page() -> str:
+    """Returns the text of the page."""
+    return "\n\n".join([INTRODUCTION.rstrip(), *filter(None, sections())]) + "\n"
 
 
 def name_of(file: Path) -> str:

@@ -332,7 +332,7 @@ WORDS = """# The headline
 What the library promises, in one statement: the contract of `both`, and that of `written_or_refused` for what is refused. Both are functions
 of [crates/cms_example](../crates/cms_example/src/lib.rt), which a user of the library could have written: they call it, and what they
 promise is proved from its public contracts alone. This page has each definition that the two contracts reach, from below: it comes after
-those that it uses, unless they use one another. [DEFINITIONS.md](DEFINITIONS.md) says in words what each of them says.
+those that it uses, unless they use one another. `scripts/proof` writes a page that says in words what each of them says.
 
 `scripts/headline.py` writes this page from the sources. `tests/lint_repo.py` checks that it is up to date, and that each name in it means
 a definition of this page, something that the kit or the code declares, or a variable.
@@ -656,8 +656,6 @@ STATED = [
     ("docs/TRUST.md", r"(rests on [0-9,]+ lines of definitions: )[0-9,]+( of)", ("lines",)),
     ("docs/TRUST.md", r"(, and )\d+( of the kit)", ("lines of the kit",)),
     ("docs/TRUST.md", r"(Item 7 rests on )\d+( lines more)", ("lines more",)),
-    ("docs/DEFINITIONS.md", r"(from\s+below: )[0-9,]+( lines)", ("lines",)),
-    ("docs/DEFINITIONS.md", r"(Both rest on )\d+( lines more)", ("lines more",)),
 ]
 
 

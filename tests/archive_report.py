@@ -57,7 +57,7 @@ Made = namedtuple("Made", "octets digest kind state year reason at", defaults=[N
 
 def vectors_of(name):
     every = json.loads((VECTORS / f"{name}.json").read_text())["vectors"]
-    return [it for it in every if it["kind"] == "convert" and isinstance(it.get("input"), str) and "until_before" not in it]
+    return [it for it in every if it["kind"] == "convert" and isinstance(it.get("input"), str)]
 
 
 def said_by_program(word, octets):

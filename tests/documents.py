@@ -10,7 +10,7 @@ sources.
 - The crate for Rust has the same message among its examples as the repository.
 - The units in examples/systemd are right for systemd, and their limits suffice for messages of 16 MiB that are made to take much. A longer one ends
   with status 5, and nothing is written.
-- scripts/api writes a page that has each public call.
+- scripts/api writes a page that has each public call, and scripts/proof pages that have each file of definitions and each edit.
 """
 
 import re
@@ -133,6 +133,20 @@ def check_api(tally):
             tally.count(f"scripts/api: {page}", ", ".join(it for it in calls if form.format(it) not in text))
 
 
+def check_proof(tally):
+    files = [it for it in sorted(TOP.glob("crates/*/specs/**/*.antt")) if "\n--- `" in it.read_text(encoding="utf-8")]
+    wanted = {
+        "definitions.md": [f"### `{it.relative_to(TOP / 'crates')}`" for it in files],
+        "promises.md": [f"`{it.stem}`" for it in sorted(TOP.glob("crates/*/must-fail/*.edit"))],
+    }
+    with tempfile.TemporaryDirectory() as folder:
+        ended = subprocess.run([TOP / "scripts" / "proof", folder], capture_output=True, text=True)
+        tally.count("scripts/proof", "" if (ended.returncode, ended.stderr) == (0, "") else f"status {ended.returncode}: {ended.stderr[:500]}")
+        for page, those in wanted.items():
+            text = (Path(folder) / page).read_text(encoding="utf-8") if (Path(folder) / page).exists() else ""
+            tally.count(f"scripts/proof: {page}", ", ".join(it for it in those if it not in text))
+
+
 def main():
     tally = Tally()
     if tally.has("git", "all"):
@@ -141,6 +155,7 @@ def main():
     check_copies(tally)
     check_units(tally)
     check_api(tally)
+    check_proof(tally)
     return tally.end()
 
 

@@ -3,9 +3,9 @@
 
     python3 tests/lint_repo.py
 
-Each count that they state and each edit that they name is there, whatever scripts/generate writes is up to date, and the sketches are code that
-compiles. Each public function is called by a test, no two definitions share a name, and identifier octets have names. Lines of documents and of
-clauses are no longer than a screen. The names of refusals, the kinds of fields, the version and the kit are everywhere those of the program
+Each count that they state is right, whatever scripts/generate writes is up to date, and the sketches are code that compiles. Each edit has a promise
+or belongs to one, and each definition that a contract names has words. Each public function is called by a test, no two definitions share a name, and
+identifier octets have names. Lines of documents but for rows of tables, and of clauses, are no longer than a screen. The names of refusals, the kinds of fields, the version and the kit are everywhere those of the program
 and of the release, and each version has a date. A finding and a call for C are in each place where one has to be, and the prototypes are those of
 the code.
 """
@@ -22,41 +22,35 @@ from tally import Tally
 TOP = Path(__file__).resolve().parent.parent
 sys.path.insert(0, str(TOP / "scripts"))
 
-from antt import definitions_of  # noqa: E402
+from antt import Module, definitions_of, note_imports  # noqa: E402
 from calls import SYMBOLS, calls  # noqa: E402
 from clauses import clauses_of, is_statement, record_of  # noqa: E402
-from definitions import half_said, misplaced  # noqa: E402
+from definitions import described, half_said, misplaced, named_in  # noqa: E402
+from promises import complaints as complaints_between_edits  # noqa: E402
 
-DEFINITIONS = (TOP / "docs" / "DEFINITIONS.md").read_text()
-PROMISES = (TOP / "docs" / "PROMISES.md").read_text()
 RATTLE = "".join(it.read_text() for it in sorted(TOP.glob("crates/*/src/*.rt")))
 
-NARROW = [*(f"docs/{it}.md" for it in ("ARCHITECTURE", "AUDITING", "DECISIONS", "DEFINITIONS", "FORMATS", "PROMISES", "SCALE", "TRUST")), "bench/RESULTS.md"]
+NARROW = [*(f"docs/{it}.md" for it in ("ARCHITECTURE", "AUDITING", "DECISIONS", "FORMATS", "SCALE", "TRUST")), "bench/RESULTS.md"]
 CLAUSE = re.compile(r" *(?:ensures|requires|ghost) (?!use )")
 KINDS = TOP / "crates" / "cms_rows" / "src" / "kinds.rt"
 # An identifier octet as a number: 80 and those after it are such only in a type, as they are length octets too.
 IDENTIFIER = re.compile(r"0x(?:0[12346]|18|3[01]|a[0-3])\b|<0x8[0-9a-f]")
-EDIT = re.compile(r"`([a-z_]+\.[a-z0-9_]+)`")
 FUNCTION = re.compile(r" *pub fn (\w+)")
 DEFINITION = re.compile(r" *(?:(?:abbrev|unfoldable) pub|pub (?:record|data)) (\S+)")
 SKETCH = re.compile(r"^```(?:text|rust)\n(.*?)^```$", re.M | re.S)
 
 
 def complaints_of_edits():
-    """Yields each edit that PROMISES.md does not name, and each that it names and is not there."""
-    edits, files = ({it.stem for it in TOP.glob(f"crates/*/{pattern}")} for pattern in ("must-fail/*.edit", "src/*.rt"))
-    named = {it for it in EDIT.findall(PROMISES) if it.split(".")[0] in files}
-    yield from (f"PROMISES.md names no edit {it}" for it in sorted(edits - named))
-    yield from (f"PROMISES.md names an edit that is not there: {it}" for it in sorted(named - edits))
+    """Yields each edit that has no promise and belongs to none, and each that is named and is not there."""
+    yield from complaints_between_edits()
 
 
 def complaints_of_wrong_bodies():
-    """Yields each wrong body of PROMISES.md whose edit names a step of a proof in place of what the function returns."""
-    table = re.search(r"^\| wrong body \| edit \|\n(.*?)\n\n", PROMISES, re.M | re.S)[1]
-    for name in EDIT.findall(table):
-        for edit in TOP.glob(f"crates/*/must-fail/{name}.edit"):
-            if not re.search(r"^# refused: \S+ returns", edit.read_text(), re.M):
-                yield f"{edit.relative_to(TOP)}: it names a step of a proof"
+    """Yields each edit that makes a wrong body by name and names a step of a proof in place of what the function returns."""
+    for edit in sorted(TOP.glob("crates/*/must-fail/*.edit")):
+        text = edit.read_text()
+        if "\n# wrong body: " in text and not re.search(r"^# refused: \S+ returns", text, re.M):
+            yield f"{edit.relative_to(TOP)}: it names a step of a proof"
 
 
 def complaints_of_surface():
@@ -168,7 +162,7 @@ def complaints_of_sketches():
     files = [*sorted(TOP.glob("crates/*/src/sketches.rt")), TOP / "crates" / "cms_example" / "src" / "lib.rt"]
     known = {line for file in files for line in lines_of_sketch(file.read_text())}
     in_rust = {line for file in TOP.glob("rust/*/examples/*.rs") for line in lines_of_sketch(file.read_text())}
-    texts = {name: (TOP / name).read_text() for name in ("docs/TRUST.md", "docs/DEFINITIONS.md", "examples/README.md")}
+    texts = {name: (TOP / name).read_text() for name in ("docs/TRUST.md", "examples/README.md")}
     for file in sorted(TOP.glob("crates/*/src/lib.rt")):
         lines = file.read_text().splitlines()
         texts[str(file.relative_to(TOP))] = "\n".join(it[3:].removeprefix(" ") for it in lines if it.startswith("//!"))
@@ -185,10 +179,10 @@ def complaints_of_copies():
 
 
 def complaints_of_long_lines():
-    """Yields each line of these documents that is longer than a screen, and of the definitions but for the import of one name."""
+    """Yields each line of these documents that is longer than a screen, but for rows of tables, and of the definitions but for the import of one name."""
     for files, width in (([TOP / name for name in NARROW], 160), (TOP.glob("crates/*/specs/**/*.antt"), 100)):
         for place, line in numbered(files):
-            if len(line) > width and not re.fullmatch(r"use \S+\.\{[^,]*\}", line):
+            if len(line) > width and not re.fullmatch(r"use \S+\.\{[^,]*\}|\|.*\|", line):
                 yield f"{place}: {len(line)} columns"
 
 
@@ -367,6 +361,37 @@ def clauses_of_public_functions(lines):
             is_public = is_in_trait or re.match(r" *pub fn\b", line) is not None
         if is_public and number in clauses:
             yield number, line
+
+
+# Its type, that of an algorithm's spans and of its value, is all that there is to say of it.
+WITHOUT_WORDS = {("cms_message/specs/Spanned.antt", "algorithm_identifier_spanned")}
+
+
+def definitions_named_by(file):
+    """Yields the file, by its crate and its path there, and the name of each definition that the contracts of public functions name in a file of the
+    code."""
+    module = Module("")
+    text = file.read_text()
+    note_imports(module, text)
+    clauses = " ".join(line for _, line in clauses_of_public_functions(text.splitlines()))
+    words = {*re.findall(r"[^\s(){}.;,]+", clauses)}
+    for used, (path, name) in module.uses.items():
+        if words & {used, *filter(None, used.split("◌"))} and (found := re.fullmatch(r"Rattle\.(\w+)\.specs\.([\w.]+)", path)):
+            yield f"{found[1]}/specs/{found[2].replace('.', '/')}.antt", name
+
+
+def complaints_of_definitions():
+    """Yields each definition that the contract of a public function names and that has no words above it."""
+    named = {it for file in own_sources() for it in definitions_named_by(file)}
+    for name in sorted({it for it, _ in named}):
+        file = TOP / "crates" / name
+        if not file.exists():
+            continue  # of the kit, or a type that the code declares
+        words = {it for row in described(file) for some in named_in(row) for it in some}
+        public = {it[1] for it in map(DEFINITION.match, file.read_text().splitlines()) if it}
+        wanted = {it for where, it in named if where == name and it in public and (name, it) not in WITHOUT_WORDS}
+        lacking = [it for it in sorted(wanted) if not words & {it, *filter(None, it.split("◌"))}]
+        yield from (f"crates/{name}: {it} has no words" for it in lacking)
 
 
 def complaints_of_internal_definitions():

@@ -3,11 +3,13 @@
 
     python3 tests/lost.py COMMIT
 
-A promise is the text of a row of docs/PROMISES.md with the contract that carries it; an edit is what it changes, wherever its file is; a test written
-in Rattle is its name; and a function of a test in Python that judges something is known by its name. What was renamed or put in other words
-is lost and new: both are listed, so that a reader sees whether the one is the other. The exit status is 1 if anything is lost.
+A promise is its text with the contract that carries it, from the head of an edit or from none.md; an edit is what it changes, wherever its file is; a
+test written in Rattle is its name; and a function of a test in Python that judges something is known by its name. What was renamed or put in other
+words is lost and new: what is lost is listed, with what is new and most like it, so that a reader sees whether the one is the other. If a commit has
+docs/PROMISES.md, the tables that this page has by hand count too. The exit status is 1 if anything is lost.
 """
 
+import difflib
 import io
 import json
 import re
@@ -17,29 +19,54 @@ import tarfile
 from pathlib import Path
 
 TOP = Path(__file__).resolve().parent.parent
-PARTS = ("crates", "docs/PROMISES.md", "tests", "python/tests", "rust")
+sys.path.insert(0, str(TOP / "scripts"))
+
+from promises import Edit, promises_without_edits  # noqa: E402
+
+PAGE = "docs/PROMISES.md"
+PARTS = ("crates", PAGE, "tests", "python/tests", "rust")
+FROM_EDITS = re.compile(r"<!-- promises of .*?<!-- the end of these promises -->", re.S)
+# What the heads of edits say for the first two cells of a row by hand, by the first column of its table.
+SAID = {"promise": "{0}", "calls": "Faults of {0}: {1}", "reason": "The octets taken at {0}: {1}"}
 
 
 def files_of(commit):
-    packed = subprocess.run(["git", "archive", commit, *PARTS], cwd=TOP, capture_output=True, check=True).stdout
+    there = ["git", "ls-tree", "--name-only", commit, "--", *PARTS]
+    parts = subprocess.run(there, cwd=TOP, capture_output=True, check=True, text=True).stdout.splitlines()
+    packed = subprocess.run(["git", "archive", commit, *parts], cwd=TOP, capture_output=True, check=True).stdout
     with tarfile.open(fileobj=io.BytesIO(packed)) as tar:
         return {it.name: tar.extractfile(it).read().decode(errors="replace") for it in tar.getmembers() if it.isfile()}
 
 
-def promises_in(page):
-    found, is_counted = [], False
-    for line in page.splitlines():
-        if "| must-fail edits |" in line:
-            is_counted = True
-        elif not line.startswith("|"):
-            is_counted = False
-        elif is_counted and not line.startswith("|---"):
-            cells = [it.strip() for it in re.split(r"(?<!\\)\|", line.strip()[1:-1])]
-            if cells[0] or not found:
-                found.append([cells[0], cells[1]])
-            else:
-                found[-1][1] = f"{found[-1][1]} {cells[1]}".strip()
-    return {" | ".join(it) for it in found}
+def rows_by_hand(page):
+    """Returns the rows that a page has by hand in its tables with a column of edits, each with the columns of its table. A row that begins with an
+    empty cell goes on with the one above it."""
+    found, columns = [], []
+    for line in FROM_EDITS.sub("", page).splitlines():
+        cells = [it.strip() for it in re.split(r"(?<!\\)\|", line.strip()[1:-1])] if line.startswith("|") else []
+        cells += [""] * (len(columns) - len(cells)) if cells else []
+        if not cells or not columns:
+            columns = cells if "must-fail edits" in cells else []
+        elif cells[0] and not line.startswith("|---"):
+            found.append((columns, cells))
+        elif not cells[0]:
+            found[-1] = (columns, [f"{above} {below}".strip() for above, below in zip(found[-1][1], cells)])
+    return found
+
+
+def promise_by_hand(columns, cells):
+    """Returns a promise in the words that the head of an edit has for it."""
+    beside = cells[-1] if columns[-1] in ("tests", "vectors") else ""
+    said = SAID.get(columns[0], "{0}").format(*cells) + (f" ({columns[-1]}: {beside})" if beside else "")
+    return f"{said} | {cells[columns.index('carried by')] if 'carried by' in columns else cells[1]}"
+
+
+def promises_in(files):
+    """Returns the promises that the heads of edits have, those of none.md, and those that a page has by hand."""
+    found = [it for name, text in files.items() if name.endswith(".edit") for it in Edit(name, text).promises]
+    found += [it for name, text in files.items() if name.endswith("/must-fail/none.md") for it in promises_without_edits(text)]
+    by_hand = (promise_by_hand(*it) for it in rows_by_hand(files.get(PAGE, "")))
+    return {*(f"{it.text} | {it.carried}" for it in found), *by_hand}
 
 
 def found_in(files):
@@ -49,10 +76,21 @@ def found_in(files):
     rust = {(name, it) for name, text in files.items() if name.endswith(".rs") for it in re.findall(r"#\[test\]\s+fn (\w+)", text)}
     vectors = {(name, it["name"]) for name, text in files.items() if re.fullmatch(r"tests/vectors/[\w-]+\.json", name) for it in json.loads(text)["vectors"]}
     return {
-        "promises": promises_in(files["docs/PROMISES.md"]), "edits": {": ".join(it) for it in edits},
+        "promises": promises_in(files), "edits": {": ".join(it) for it in edits},
         "tests in Rattle": {": ".join(it) for it in rattle}, "tests in Rust": {": ".join(it) for it in rust},
         "checks in Python": {": ".join(it) for it in scripts}, "vectors": {": ".join(it) for it in vectors},
     }
+
+
+def side_by_side(gone, new):
+    """Yields a line for each of what is lost, below it one for the most alike of what is new, and then lines for all else that is new."""
+    left = sorted(new)
+    for it in sorted(gone):
+        yield f"- {it}"
+        for other in difflib.get_close_matches(it, left, 1):
+            left.remove(other)
+            yield f"+ {other}"
+    yield from (f"+ {it}" for it in left)
 
 
 def main(words):
@@ -68,9 +106,8 @@ def main(words):
         gone, new = those - now[kind], now[kind] - those
         lost += len(gone)
         print(f"{kind}: {len(those)} before, {len(now[kind])} now, {len(gone)} lost, {len(new)} new")
-        for mark, some in (("-", gone), ("+", new if gone else ())):
-            for it in sorted(some):
-                print(f"  {mark} " + it.replace("\n", "\n      "))
+        for line in side_by_side(gone, new if gone else ()):
+            print("  " + line.replace("\n", "\n      "))
     return 1 if lost else 0
 
 

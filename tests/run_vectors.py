@@ -327,12 +327,11 @@ NEED_GCC = ("sweep-writes", "refused-growth", "status-of-faults")
 # ---- choosing the vectors
 
 def read_vectors():
-    """Returns every vector by its name `file/name`, our own ones and those of the files, but for those that describe an earlier version."""
+    """Returns every vector by its name `file/name`, our own ones and those of the files."""
     every = {}
     for file in (DATA_FILES / "own.json", *sorted(VECTORS.glob("*.json"))):
         for vector in json.loads(file.read_text(encoding="utf-8"))["vectors"]:
-            if "until_before" not in vector:
-                every[f"{file.stem}/{vector['name']}"] = vector
+            every[f"{file.stem}/{vector['name']}"] = vector
     return every
 
 

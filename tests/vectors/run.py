@@ -117,8 +117,8 @@ def questions_of(file):
     """Yields each vector of a file by its name, with what it asks; None if no command line can be asked that."""
     for vector in json.loads(file.read_text(encoding="utf-8"))["vectors"]:
         ask = ASKS.get(vector["kind"])
-        is_current = vector.get("tail") != "leave" and not {"until_before", "then_forever"} & {*vector}
-        yield f"{file.stem}/{vector['name']}", ask(vector) if ask and is_current else None
+        can_be_asked = ask and vector.get("tail") != "leave" and "then_forever" not in vector
+        yield f"{file.stem}/{vector['name']}", ask(vector) if can_be_asked else None
 
 
 # ---- asking
