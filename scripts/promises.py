@@ -54,8 +54,8 @@ These words recur:
   programs fail in turn. The other tests are in the crates of tests, which `./run-tests` runs and which are not proved.
 - **The octets taken at** a refusal are what its reason says of them. For E1 to E5, E8 to E11, E17 and E18 the clauses `reasons` and `faults` of the
   reading calls carry that, `why` of each call that reads a field or contents, and `faults` of `read_message` and the calls that read by it (`SayWhy`).
-  A call that judges no contents says by it that it never refuses for E8 to E11, E17 or E18. `why` counts from the first octet of the field, but leaves
-  free what is before the last header (E2 to E5) and earlier parts of contents (E8 to E11, E17); `SayWhy` speaks of the last header or element alone.
+  A call that judges no contents says by it that it never refuses for E8 to E11, E17 or E18. `why` counts from the first octet of the field: what
+  is before the last header (E2 to E5) or element (E8 to E11, E17) is a path (`IsPath`), if the record has paths (`has_paths`).
   For the other reasons, and for the place, clause `refines` fixes the first refusal that reading comes to, by the definitions of reading in
   `cms_tlv/specs/Reading.antt` and above it. The vectors are those of `tests/vectors`.
 - The `limit` of a call of `cms_c` counts as 2^40 if it is larger. Its contracts are about octets in memory: good pointers and lengths are the
