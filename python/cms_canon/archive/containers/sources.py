@@ -25,7 +25,7 @@ MOST_PARTS = 100_000  # sections, lines and elements of the manifests in any fil
 OCTETS_OF_A_PART = 8
 MOST_STEPS = 20_000  # which parts of mails, messages in PEM and PDFs in any file cost, or one for so many octets: each takes some 50 to 90 microseconds
 OCTETS_OF_A_STEP = 512
-MOST_FORWARD = 64 << 20  # octets of a member that are read for its end
+MOST_FORWARD = 1 << 20  # octets that a member has at most if it is read to its end, only to see what it ends with
 MOST_HELD = 32 << 20  # octets of mails inside one another that are kept at once, with twice those of the largest
 DEEPEST = 4  # packed files inside one another
 DEEPEST_MAIL = 20  # mails inside one another
@@ -178,13 +178,14 @@ class Source:
             return begin, self.tail(last)
         begin = end = self.head
         octets = len(begin)
+        most = first if self.size and self.size > MOST_FORWARD else MOST_FORWARD
         while piece := self._file.read(PIECE):
             self.budget.take(len(piece))
             octets += len(piece)
             if len(begin) < first:
                 begin = (begin + piece)[:first]
             end = (end + piece)[-last:]
-            if octets > MOST_FORWARD:
+            if octets > most:
                 return begin, None
         self.size = octets
         return begin, end
