@@ -1,38 +1,45 @@
-"""The table of CONTRIBUTING that says what each script of scripts/, tests/ and bench/ does: how it is called, and the first sentence that it says of
-itself. In scripts/ these are the files without an ending."""
+"""Lists the scripts of scripts/, tests/ and bench/: how each is called, and the first sentence that it says of itself.
+
+    python3 scripts/commands.py
+
+In scripts/ these are the files without an ending.
+"""
 
 import ast
 import re
+import textwrap
 from pathlib import Path
-from typing import Dict, Iterator
-
-from texts import head, row
+from typing import Iterator, NamedTuple
 
 TOP = Path(__file__).resolve().parent.parent
-PAGE = "CONTRIBUTING.md"
-TABLE = re.compile(r"<!-- scripts -->\n.*?<!-- the end of scripts -->", re.S)
 CALLED = re.compile(r"^    ((?:/usr/bin/)?python3 .*)$", re.M)
 OF_OTHERS = ("faulty_worker.py",)  # what a test calls, and nobody else
+
+
+class Script(NamedTuple):
+    """How a script is called, and what it does."""
+
+    called: str
+    does: str
 
 
 def first_sentence(said: str) -> str:
     return re.split(r"(?<=[.])\s|:?\n\n", said.strip())[0].replace("\n", " ").rstrip(".")
 
 
-def rows_of_scripts() -> Iterator[str]:
-    """Yields a row for each file of scripts/ that is a command."""
+def commands() -> Iterator[Script]:
+    """Gives each file of scripts/ that is a command."""
     for file in sorted(it for it in (TOP / "scripts").iterdir() if it.is_file() and not it.suffix):
         text = file.read_text(encoding="utf-8")
         comment = re.match(r"#!/bin/sh\n((?:#.*\n)+)", text)
         said = re.sub(r"^# ?", "", comment[1], flags=re.M) if comment else ast.get_docstring(ast.parse(text), clean=False) or ""
         called = re.search(r"(?:^    |: )(scripts/[^.\n]*)", said, re.M)
         sentence = first_sentence(said)
-        yield row(f"`{called[1] if called else f'scripts/{file.name}'}`", sentence.removesuffix(f": {called[1]}") if called else sentence)
+        yield Script(called[1] if called else f"scripts/{file.name}", sentence.removesuffix(f": {called[1]}") if called else sentence)
 
 
-def rows() -> Iterator[str]:
-    yield from head("command", "what it does")
-    yield from rows_of_scripts()
+def tests_and_benches() -> Iterator[Script]:
+    """Gives each test and each bench. Raises `SystemExit` if one does not say how it is called."""
     for file in sorted([*TOP.glob("tests/*.py"), *TOP.glob("bench/*.py")], key=lambda it: (it.parent.name != "tests", it.name)):
         text = file.read_text(encoding="utf-8")
         said = ast.get_docstring(ast.parse(text), clean=False) or ""
@@ -41,10 +48,14 @@ def rows() -> Iterator[str]:
             continue
         if not called:
             raise SystemExit(f"{file.relative_to(TOP)}: its docstring does not say how it is called")
-        yield row(f"`{called[1]}`", first_sentence(said))
+        yield Script(called[1], first_sentence(said))
 
 
-def files() -> Dict[str, str]:
-    """Returns the text of the page, by its name. Raises `SystemExit` if a script does not say how it is called."""
-    text = (TOP / PAGE).read_text(encoding="utf-8")
-    return {PAGE: TABLE.sub(lambda _: "<!-- scripts -->\n\n" + "\n".join(rows()) + "\n\n<!-- the end of scripts -->", text)}
+def main() -> None:
+    for it in (*commands(), *tests_and_benches()):
+        print(it.called)
+        print(textwrap.fill(it.does, 120, initial_indent="    ", subsequent_indent="    ", break_on_hyphens=False))
+
+
+if __name__ == "__main__":
+    main()

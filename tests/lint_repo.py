@@ -4,10 +4,10 @@
     python3 tests/lint_repo.py
 
 Each count that they state is right, whatever scripts/generate writes is up to date, and the sketches are code that compiles. Each edit has a promise
-or belongs to one, and each definition that a contract names has words. Each public function is called by a test, no two definitions share a name, and
-identifier octets have names. Lines of documents but for rows of tables, and of clauses, are no longer than a screen. The names of refusals, the kinds of fields, the version and the kit are everywhere those of the program
-and of the release, and each version has a date. A finding and a call for C are in each place where one has to be, and the prototypes are those of
-the code.
+or belongs to one, each definition that a contract names has words, and each script says what it does. Each public function is called by a test, no two
+definitions share a name, and identifier octets have names. Lines of documents but for rows of tables, and of clauses, are no longer than a screen. The
+names of refusals, the kinds of fields, the version and the kit are everywhere those of the program and of the release, and each version has a date. A
+finding and a call for C are in each place where one has to be, and the prototypes are those of the code.
 """
 
 import json
@@ -25,6 +25,7 @@ sys.path.insert(0, str(TOP / "scripts"))
 from antt import Module, definitions_of, note_imports  # noqa: E402
 from calls import SYMBOLS, calls  # noqa: E402
 from clauses import clauses_of, is_statement, record_of  # noqa: E402
+from commands import commands, tests_and_benches  # noqa: E402
 from definitions import described, half_said, misplaced, named_in  # noqa: E402
 from promises import complaints as complaints_between_edits  # noqa: E402
 
@@ -208,6 +209,14 @@ def complaints_of_generated():
     run = subprocess.run([sys.executable, TOP / "scripts" / "generate", "--check"], capture_output=True, text=True)
     if run.returncode:
         yield (run.stdout + run.stderr).strip() or f"status {run.returncode}"
+
+
+def complaints_of_scripts():
+    """Yields each script that does not say what it does, or how it is called."""
+    try:
+        yield from (f"{it.called}: it does not say what it does" for it in (*commands(), *tests_and_benches()) if not it.does)
+    except SystemExit as wrong:
+        yield str(wrong)
 
 
 def complaints_of_names():
