@@ -5,7 +5,7 @@ import re
 from pathlib import Path
 from typing import Dict, Iterator, List
 
-from texts import head, row, rows_of
+from texts import head, row
 
 TOP = Path(__file__).resolve().parent.parent
 PAGE = "docs/ARCHITECTURE.md"
@@ -36,7 +36,7 @@ def table_of_crates() -> Iterator[str]:
     for crate in names():
         sources = TOP / "crates" / crate / "src"
         file = next(it for it in (sources / "lib.rt", sources / "main.rt") if it.exists())
-        yield from rows_of(f"`{crate}`", first_sentence(file, "//!"))
+        yield row(f"`{crate}`", first_sentence(file, "//!"))
 
 
 def table_of_proofs() -> Iterator[str]:
@@ -45,9 +45,8 @@ def table_of_proofs() -> Iterator[str]:
         proofs = TOP / "crates" / crate / "proofs"
         if not (proofs / "Lib.antt").exists():
             continue
-        for at, module in enumerate(re.findall(r"^pub mod (\w+)", (proofs / "Lib.antt").read_text(encoding="utf-8"), re.M)):
-            line = row(f"`{crate}`" if at == 0 else "", f"`{module}`", first_sentence(proofs / f"{module}.antt", "--"))
-            yield line.replace("|  |", "| |")
+        for module in re.findall(r"^pub mod (\w+)", (proofs / "Lib.antt").read_text(encoding="utf-8"), re.M):
+            yield row(f"`{crate}`", f"`{module}`", first_sentence(proofs / f"{module}.antt", "--"))
 
 
 def files() -> Dict[str, str]:

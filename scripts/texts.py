@@ -11,7 +11,6 @@ REFUSALS = "texts/refusals.toml"
 FINDINGS = "texts/findings.toml"
 MAKER = "Only the maker of the message can fix it."
 WIDTH = 79  # columns of help
-MOST = 158  # columns of a row in a document
 Row = Dict[str, object]
 
 
@@ -130,16 +129,6 @@ def row(*cells: str) -> str:
     return "| " + " | ".join(cells) + " |"
 
 
-def rows_of(*cells: str) -> Iterator[str]:
-    """Gives a row; if it is too long, the one cell that is the longest goes on in rows below it."""
-    longest = max(range(len(cells)), key=lambda it: len(cells[it]))
-    room = MOST - sum(len(it) + 3 for it in cells) + len(cells[longest])
-    first, *others = textwrap.wrap(cells[longest], room, break_long_words=False, break_on_hyphens=False)
-    yield re.sub(r"\|  (?=\|)", "| ", row(*cells[:longest], first, *cells[longest + 1 :]))
-    for it in others:
-        yield re.sub(r"\|  (?=\|)", "| ", row(*[""] * longest, it, *[""] * (len(cells) - longest - 1)))
-
-
 def head(*cells: str) -> Iterator[str]:
     yield row(*cells)
     yield "|" + "---|" * len(cells)
@@ -148,22 +137,22 @@ def head(*cells: str) -> Iterator[str]:
 def formats_of_refusals() -> Iterator[str]:
     yield from head("no.", "name", "meaning")
     for it in REFUSED:
-        yield from rows_of(f"E{it['number']}", it["name"], it["exact"])
+        yield row(f"E{it['number']}", it["name"], it["exact"])
 
 
 def formats_of_findings() -> Iterator[str]:
     yield from head("finding", "for", "meaning", "section")
     for it in FOUND:
         for whose, broken, section in it["broken"]:
-            yield from rows_of(f"F{it['number']}", whose, broken, section)
+            yield row(f"F{it['number']}", whose, broken, section)
 
 
 def formats_of_remedies() -> Iterator[str]:
     yield from head("finding", "what to do")
     for it in RULES:
         if it.remedy:
-            yield from rows_of(f"F{it.number}", it.remedy)
-    yield from rows_of("the others", MAKER + " Conversion does not change what is found, but for the numbers of signers.")
+            yield row(f"F{it.number}", it.remedy)
+    yield row("the others", MAKER + " Conversion does not change what is found, but for the numbers of signers.")
 
 
 def formats_of_texts() -> Iterator[str]:
