@@ -341,8 +341,11 @@ a definition of this page, something that the kit or the code declares, or a var
 
 A message is a ContentInfo that holds SignedData (RFC 5652), or a TimeStampReq or a TimeStampResp (RFC 3161), as sections 1 to 7 have them: at
 most eight octets encode a length, and at most four follow the first octet of an identifier; what is opaque is framed as in section 3; a BIT STRING is
-primitive; signed attributes are in DER; strings have at most eight levels of segments, and countersignatures four. Two are the same if they
-differ at most in the order of the members of sets (`same_message`). An input denotes a message if it spells one that is the same, and neither the input nor the DER of its message has more than 2^24 octets.
+primitive; signed attributes are in DER; strings have at most eight levels of segments, and countersignatures four. Inside what is opaque, DER is asked
+of the framing alone. A message has no forms of lengths or segments, octet of TRUE, explicit default, unused bits or trailing zeros of named bits: what
+differs only in these spells the same value. Two messages are the same if they differ at most in the order of the members of sets (`same_message`).
+Numbers of versions are kept, and not checked. An input denotes a message if it spells one that is the same, and neither the input nor the DER of its
+message has more than 2^24 octets.
 
 Take any two inputs in memory. If `both` returns two lists of octets, then of each input and what is written for it:
 
@@ -351,19 +354,20 @@ Take any two inputs in memory. If `both` returns two lists of octets, then of ea
 - **`same`**: the two lists are equal if and only if there is a message that both inputs denote.
 - **`kept`**: the content is the same; each signature and countersignature covers the same octets, whatever detached content is given; and
   signed attributes, certificates, attribute values other than countersignatures, and everything else that is opaque lie in what is written as they
-  lie in the input, octet for octet, and each as often.
-- **`again`**: what is written is accepted, and is written again unchanged; and if octets follow it, it is the only beginning of the whole that
-  spells a message.
+  lie in the input, octet for octet, and the two values have each equally often.
+- **`again`**: what is written is accepted, and is DER of the message that it spells; and if octets follow it, it is the only beginning of the whole that
+  spells a message. That it is written again unchanged follows, since DER of one message is unique (`what_is_written_is_written_again`, a law that is not here).
 
-What `written_or_refused` writes is DER as above (`der`). If it refuses an input (`refused`), then one of these is true of the octets that the
-refusal counts:
+What `written_or_refused` writes is DER as above (`der`). If it refuses an input (`refused`), then one of these is true of the first octets of the input,
+as many as the refusal counts (`at`):
 
-- they are hopeless: no list of octets that begins with them begins with a message of at most 2^24 octets;
-- it is E1: they are the whole input, fewer than 2^24, and a proper prefix of a frame, though maybe of none that a message begins with;
+- they are hopeless, and at most 2^24: no list of octets that begins with them begins with a message of at most 2^24 octets;
+- it is E1: they are the whole input, fewer than 2^24, and a proper prefix of a frame (an element of which only the framing is considered), though maybe
+  of none that a message begins with;
 - it is E2: they are a message of at most 2^24 octets, and all DER of it has more (that there is some is not said here);
 - it is E18: they are a message, which has at most 2^24 octets as its DER has, and one octet that follows it.
 
-If they are hopeless, they also say why (`SayWhy`), and it is not E18:
+If they are hopeless, they are not those of the last two, and so they also say why (`SayWhy`), and it is not E18:
 
 - with E2 they are 2^24 many, or end in a header whose contents would end past the octet 2^24;
 - with E3, E4 and E5 they end in identifier octets and one length octet: FF; one of 89 to FE; or 80, if the identifier is primitive;
@@ -379,7 +383,7 @@ is one that a message has: `30 04 31 02 02 00` does end in a malformed INTEGER, 
 (E7). Nor does this page say that the refusal is the first one that reading from left to right comes to. Both are said by the clause `refines` of
 `read_message`, a function of the library that is not on this page; the clause names the pure readers.
 
-Besides refusals, `written_or_refused` returns only `OutOfMemory`. No clause says when: a `both` that always returns none, and a `written_or_refused`
+The only other error of `written_or_refused` is `OutOfMemory`. No clause says when: a `both` that always returns none, and a `written_or_refused`
 that always says that memory ran out, would meet these contracts.
 
 That the imprint which a request or a token is about is kept too is a law of its own (`same_messages_have_the_same_covers`, clause `imprint`).
@@ -392,12 +396,16 @@ them. They rest on the types of the code, which come first, and on definitions o
 
 A **grammar** says in its rows how a value is spelled, which values are the same, and more that serves reading. The contracts read only its
 rows {read}, and no definition here projects another one. So the other rows are left out, as `..` at the end of a record says.
-What a grammar hands to those rows alone is not read there either:
+These are handed only to rows that are left out, and do not matter there (section 10 uses some of them too):
 {handed}.
 A name in brackets after what a grammar is, as [`Tagged`], is the type of the code that reads and writes by it.
 {rules}
 
-Notation: `(x : A) × B` is a pair whose second part may speak of the first one; `.0` and `.1`, or a name, is a part of a value;
+Notation: `(x : A) × B` is a pair whose second part may speak of the first one; `.0` and `.1`, or a name, is a part of a value; `(x : A) → B` is a
+function, and says `B` of all `x`; in `{{x : A}}`, `x` is found from what follows; `A → ⊥` says that `A` is untrue; `A ⊎ B` is one of the two, `inl` of the
+first and `inr` of the second; `x ∷ xs` is a list that begins with `x`; `a.now` is the octets of a slice, and `.items` those of a `Vec`; after `mutual` come
+definitions that use one another; `unfoldable` says how the prover treats a definition, and nothing about it. In a comment, `--- |` begins a further
+sentence, and [ours] marks what is in no standard. What is said of a reason beside its name in the code is a summary: `SayWhy` has what is promised;
 `record g {{ .. }}` is `g` with other rows; `abbrev` introduces a synonym; `◌` marks the position of an operand. `⊤` and `Unit {{0}}` hold, and `⊥`
 does not. The first clause of a definition that matches counts. `0x30` is hexadecimal; in comments octets are written without `0x`, and other
 numbers are decimal. The prefixes `reasons.`, `faults.` and `tails.` precede variants of the types of the code. Of the kit,
