@@ -125,6 +125,16 @@ def judge_encrypted(home, archive):
     count_same("an encrypted member", (one.what.value, one.note), ("unreadable", "it is encrypted"))
 
 
+def judge_ends(home, archive):
+    """A zip that ends a picture in a zip is named if the picture has at most 1 MiB: a larger one is said not to be read to its end."""
+    picture = b"\xff\xd8\xff\xe0" + bytes(range(256))
+    for size, wanted in ((1 << 10, ("zip after something else", "")), (2 << 20, ("file", "it is so large that its end was not looked at"))):
+        octets = picture.ljust(size, b"\xaa") + zipped({"a": b"x"})
+        path = write_files(home / "ends", {f"{size}.zip": zipped({"a.jpg": octets}, zipfile.ZIP_STORED)}) / f"{size}.zip"
+        said = [(it.form, it.note) for it in archive.files.found_in_path(str(path)) if it.where]
+        count_same(f"a zip that ends a picture of {size:,} octets", said, [wanted])
+
+
 def judge_weak(home, make):
     """`algorithms --weak` counts imprints, manifests and the signatures of certificates, and not only signers."""
     make.run("openssl req -x509 -newkey rsa:2048 -sha1 -nodes -keyout old.key -out old.pem -subj /CN=Old -days 1")
@@ -375,6 +385,7 @@ def judge_copy(home):
     judge_long_path(home, make)
     judge_same(home, make)
     judge_encrypted(home, archive)
+    judge_ends(home, archive)
     judge_weak(home, make)
     judge_signed_content(home, archive, make)
     judge_not_found(home, archive, make)
