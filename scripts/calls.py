@@ -14,7 +14,7 @@ JAVA = "java/src/cmscanon/Library.java"
 RUST = "rust/cms-canon/src/ffi.rs"
 SYMBOLS = "packaging/debian/libcms-canon0.symbols"
 USING = "docs/USING.md"
-VERSION = "crates/cms_command/src/lib.rt"
+VERSION = "crates/cms_cli/src/task.rt"
 
 CALL = re.compile(r"^(CMS_CANON_DEPRECATED\n)?void (cms_canon_\w+)\(([^()]*)\);", re.M)
 MARKED = re.compile(r"( *)// The calls of the header: scripts/generate writes these\.\n.*?// The end of the calls\.\n", re.S)

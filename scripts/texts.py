@@ -256,7 +256,7 @@ def in_page(what: str, lines: Callable[[], Iterable[str]]) -> Region:
     return Region("man/cms-canon.1", f'.\\" {what}: scripts/generate writes this from texts/', f'.\\" the end of {what}', lines)
 
 
-HELP = "crates/cms_command/src/texts.rt"
+HELP = "crates/cms_cli/src/texts.rt"
 REGIONS = [
     Region("crates/cms_listing/src/findings.rt", "    match code {", '        _ => "unknown finding",', rattle_of_findings),
     Region("crates/cms_tests/src/listings.rt", "/// The last finding, and a line for each, for the message.", '";', test_of_findings),

@@ -320,7 +320,7 @@ def complaints_of_fields():
 
 def complaints_of_versions():
     """Yields each file that does not have the version of the program: the changelog, whose newest counts, the release, and the crate."""
-    version = re.search(r'\.version\("([^"]*)"\)', (TOP / "crates" / "cms_command" / "src" / "lib.rt").read_text())[1]
+    version = re.search(r'\.version\("([^"]*)"\)', (TOP / "crates" / "cms_cli" / "src" / "task.rt").read_text())[1]
     crate = r"^version = \"(\d+\.\S+)\"$"
     for name, pattern in (
         ("CHANGELOG.md", r"^## (\d\S*) - \d{4}-\d\d-\d\d$"), ("dist/x86_64-linux/MANIFEST", r"^version: (.*)$"),
@@ -372,10 +372,6 @@ def clauses_of_public_functions(lines):
             yield number, line
 
 
-# Its type, that of an algorithm's spans and of its value, is all that there is to say of it.
-WITHOUT_WORDS = {("cms_message/specs/Spanned.antt", "algorithm_identifier_spanned")}
-
-
 def definitions_named_by(file):
     """Yields the file, by its crate and its path there, and the name of each definition that the contracts of public functions name in a file of the
     code."""
@@ -398,7 +394,7 @@ def complaints_of_definitions():
             continue  # of the kit, or a type that the code declares
         words = {it for row in described(file) for some in named_in(row) for it in some}
         public = {it[1] for it in map(DEFINITION.match, file.read_text().splitlines()) if it}
-        wanted = {it for where, it in named if where == name and it in public and (name, it) not in WITHOUT_WORDS}
+        wanted = {it for where, it in named if where == name and it in public}
         lacking = [it for it in sorted(wanted) if not words & {it, *filter(None, it.split("◌"))}]
         yield from (f"crates/{name}: {it} has no words" for it in lacking)
 

@@ -15,19 +15,12 @@ handed_over m input before after limit o e a (inl (octets, (d, k), w)) = inl (
   (
     record {
       read = m.value;
-      accepted =
-          record {
-            spells = a.0.0;
-            short = a.0.1;
-            canonical = octets;
-            written = d.value;
-            der_spells = d.spells;
-            same = d.same;
-            canonical_short = a.1.1 octets d;
-          };
+      spells = a.0.0;
+      short = a.0.1;
       written = d.value;
       der_spells = d.spells;
-      same = d.same;
+      is_same = d.same;
+      der_short = a.1.1 octets d;
     },
     subst (λ b. KeepsReceived b octets) e k,
   ),

@@ -85,7 +85,7 @@ abbrev pub IsDerHandedOver : List ℕ → ℕ → List ℕ → List ℕ → Outc
 IsDerHandedOver input limit =
     IsHandedOver (IsDerOfInput input limit) (FailsBy input limit) SaysFault
 
--- the same for a message that was read
+-- DER of a message that was read is handed over
 abbrev pub PutsDer : Whole → List ℕ → List ℕ → Outcome → Type 0
 PutsDer m = IsHandedOver (λ octets. IsDerOf m.value octets × KeepsReceived m.octets octets)
     (λ e. e ≡ faults.OutOfMemory) SaysFault
@@ -193,7 +193,7 @@ LacksBy input limit f last lacks.NoSignedData = Yields input limit f None
 LacksBy input limit f last lacks.NoSigner = Yields input limit f (Some None)
 LacksBy input limit f last e = (e ≡ last) × Yields input limit f (Some (Some None))
 
---- `Lacks r last l`: the same of a message that is known, for which it is `r`
+--- `Lacks r last l`: `LacksBy` for a message that is known, of which `r` is what was looked for
 abbrev pub Lacks : Option (Option (Option (List ℕ))) → Lack → Lack → Type 0
 Lacks r last (lacks.Fault faults.OutOfMemory) = Unit {0}
 Lacks r last (lacks.Fault e) = ⊥

@@ -31,7 +31,7 @@ AreWritten {A} IsSaid octets before after o =
     (IsSaid o × (length octets ≤ length before) × (after ≡ octets ++ drop (length octets) before))
     ⊎ (Says o 6 0 0 (length octets) [] × (length before < length octets) × (after ≡ before))
 
---- `IsDelivered octets before after o`: the same of octets, findings or rows, with status 0
+--- `IsDelivered octets before after o`: `AreWritten` of octets, findings or rows, with status 0
 abbrev pub IsDelivered : {A : Type 0} → List A → List A → List A → Outcome → Type 0
 IsDelivered octets = AreWritten (λ o. Says o 0 0 0 (length octets) []) octets
 

@@ -48,7 +48,7 @@ part_along v path part =
     if part == 9 then Some (certificate_at v path)
     else option_map (part_of_signer part) (signer_along v path)
 
---- `part_at v path part`: the same of a message: no SignedData, or that
+--- `part_at v path part`: `part_along` of the SignedData of a message, or none if it has none
 abbrev pub part_at : MessageValue → List ℕ → ℕ → Option (Option (Option (List ℕ)))
 part_at v path part = option_map (λ s. part_along s path part) (signed_data_in v)
 

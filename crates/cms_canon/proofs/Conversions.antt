@@ -24,7 +24,6 @@ use Rattle.cms_canon.specs.declared.message.Tail.TheVariants as tails
 use Rattle.cms_canon.specs.Many.{Conversion, AreOnePiece, IsReadAhead, IsFaithful, messages_of, ders_of, ArePastEnd, IsAfter, StopsAt, ManyFaults, AreConverted, AreAllConverted}
 use Rattle.cms_canon.specs.internal.ManySteps.{InHand, Progress, Proceeds, NextFails, IsBeforeEnd, IsNext, IsShort, with_message, with_der, all_written, split_at_message, stopped}
 use Rattle.cms_canon.specs.Messages.{IsDerOf, IsRead, IsAfterMessage, IsRefused, Hopeless}
-use Rattle.cms_canon.specs.Conversions.{command_limit}
 use Rattle.cms_canon.specs.Exact.{ExactFaults}
 use Rattle.cms_canon.specs.Streams.{Reading, Writing, between, since, Takes, HasEnded, WritesAll, WritesNone}
 use Rattle.cms_canon.specs.internal.Steps.{IsSent, SendFaults}
@@ -50,19 +49,12 @@ is_conversion law r limit m octets k o =
     record {
       is_written = record {
         read = m.value;
-        accepted =
-            record {
-              spells = k.message.0;
-              short = k.message.1;
-              canonical = octets;
-              written = o.value;
-              der_spells = o.spells;
-              same = o.same;
-              canonical_short = short;
-            };
+        spells = k.message.0;
+        short = k.message.1;
         written = o.value;
         der_spells = o.spells;
-        same = o.same;
+        is_same = o.same;
+        der_short = short;
       };
       short = short;
       received = law m.octets octets m.value o.value k.message.0 o.spells o.same;
@@ -563,14 +555,3 @@ module _ {V : Type 0} (r : Reading) (w : Writing) (limit : ℕ) (b : InHand) (a 
 
   pub stops_there : (f : ManyFault) → a ≡ Err f → ManyFaults r w limit f
   stops_there f e = subst (Proceeds r w limit b) e h
-
--- memory was wanted before anything was read
-pub none_begun : (left out : Option (List ℕ)) (failures failed status : ℕ) → status ≡ 5
-    → AreAllConverted (between left failures left failures) (since out failed out failed) status
-none_begun left out failures failed status s =
-    let b : InHand = record { count = record { messages = 0; read = 0; written = 0 }; octets = []; lengths = [] } in (
-      Err (stopped b faults.OutOfMemory),
-      s,
-      fails_next (begun left out failures failed command_limit) refl faults.OutOfMemory
-          (inl (((refl, ([], Consumes-nil left, omega arith)), tt), tt, (omega arith, omega arith))),
-    )

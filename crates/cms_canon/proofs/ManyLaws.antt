@@ -6,34 +6,24 @@ use Rattle.cms_tlv.specs.Law.{IsField}
 use Rattle.cms_tlv.specs.Spelling.{ber, Rules, Spelling}
 use Rattle.cms_fields.specs.Canonical.{IsByDer}
 use Rattle.std.proofs.Common.{Bool}
-use Rattle.cms_canon.specs.Denotes.{Accepts, IsAcceptedAs}
+use Rattle.cms_canon.specs.Denotes.{IsAcceptedAs}
 use Rattle.cms_canon.specs.Kinds.{whole_message, same_message}
 use Rattle.cms_canon.specs.Many.{Conversion, IsFaithful, messages_of, ders_of, AreSame}
 use Rattle.cms_canon.proofs.Headline.{IsMessageKind, one_output}
 use Rattle.cms_canon.proofs.MessageLaws.{message_kind}
 use Rattle.cms_canon.proofs.Prefixes.{end_themselves}
 
-pub larger_accepts : {V : Type 0} {R : Rules → Spelling V} {s : V → V → Bool} (limit larger : ℕ) (b : List ℕ) (v : V) → limit ≤ larger
-    → Accepts R s limit b v → Accepts R s larger b v
-larger_accepts limit larger b v l a = record {
-  spells = a.spells;
-  short = omega (arith, a.short, l);
-  canonical = a.canonical;
-  written = a.written;
-  der_spells = a.der_spells;
-  same = a.same;
-  canonical_short = omega (arith, a.canonical_short, l);
-}
-
 pub larger_written : {V : Type 0} {R : Rules → Spelling V} {s : V → V → Bool} (limit larger : ℕ) (b o : List ℕ) → limit ≤ larger
     → IsAcceptedAs R s limit b o → IsAcceptedAs R s larger b o
 larger_written limit larger b o l w =
     record {
       read = w.read;
-      accepted = larger_accepts limit larger b w.read l w.accepted;
+      spells = w.spells;
+      short = omega (arith, w.short, l);
       written = w.written;
       der_spells = w.der_spells;
-      same = w.same;
+      is_same = w.is_same;
+      der_short = omega (arith, w.der_short, l);
     }
 
 module _ {P : ℕ → Type 0} (fields : IsField P (whole_message ber)) (by_der : IsByDer same_message whole_message) (limit : ℕ) where
@@ -42,7 +32,7 @@ module _ {P : ℕ → Type 0} (fields : IsField P (whole_message ber)) (by_der :
 
   not_empty : (c : Conversion) (rest : List ℕ) → IsFaithful limit c → c.message ++ rest ≢ []
   not_empty c rest k e =
-      let s = fields.starts c.message k.is_written.read k.is_written.accepted.spells in
+      let s = fields.starts c.message k.is_written.read k.is_written.spells in
       omega (arith, ap length s.2, ap length e, length-append c.message rest)
 
   -- the empty input has no message

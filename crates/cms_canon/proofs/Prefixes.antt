@@ -17,7 +17,7 @@ use Rattle.cms_canon.specs.Denotes.{EndThemselves, IsReadAlone, IsAcceptedAs}
 use Rattle.cms_canon.specs.Messages.{IsMessage, IsAfterMessage, IsRefused, Hopeless}
 use Rattle.cms_canon.specs.Prefixes.{IsReadAgain}
 use Rattle.cms_canon.specs.Streams.{Reading, Writing, WritesAll}
-use Rattle.cms_canon.proofs.Headline.{IsMessageKind, written_short, written_again, der_unchanged}
+use Rattle.cms_canon.proofs.Headline.{IsMessageKind, written_again, der_unchanged}
 use Rattle.cms_canon.proofs.MessageLaws.{message_kind}
 
 pub end_themselves : {V : Type 0} {P : ℕ → Type 0} {R : Spelling V} → IsField P R → EndThemselves R
@@ -60,14 +60,11 @@ module _ {P : ℕ → Type 0} (fields : IsField P (whole_message ber)) (by_der :
   kind : IsMessageKind whole_message same_message
   kind = message_kind fields by_der
 
-  short : length o ≤ limit
-  short = written_short kind limit b o h
-
   spelled : whole_message ber o h.written
   spelled = by_der.within o h.written h.der_spells
 
   message : IsMessage limit o h.written
-  message = (spelled, short)
+  message = (spelled, h.der_short)
 
   done : (r : Reading) (w : Writing) (tail : Tail) (d : Done) → r.left_before ≡ Some (o ++ rest) → IsCanonicalised r w limit tail d
       → (r.left_after ≡ Some rest) × WritesAll w o × (d.read ≡ length o) × (d.written ≡ length o)
@@ -89,7 +86,7 @@ module _ {P : ℕ → Type 0} (fields : IsField P (whole_message ber)) (by_der :
         spells = h.der_spells;
         same = subst (λ v. same_message v h.written ≡ true) k.1 (by_der.equivalence.refl h.written);
       }) in
-      absurd (omega (arith, short, long))
+      absurd (omega (arith, h.der_short, long))
   past tail reasons.Trailing octets ys e p =
       let q = p.1 in
       let k = end_themselves fields o q.0 rest (q.1 ∷ ys) h.written q.2 spelled q.4.0 (e ∙ ap (λ t. t ++ ys) q.3 ∙ append_assoc q.0 (q.1 ∷ []) ys) in
@@ -128,6 +125,6 @@ module _ {P : ℕ → Type 0} (fields : IsField P (whole_message ber)) (by_der :
 
   pub read_alone : IsReadAlone whole_message same_message limit o
   read_alone = record {
-    again = der_unchanged kind limit o h.written h.der_spells short;
+    again = der_unchanged kind limit o h.written h.der_spells h.der_short;
     alone = λ c x y v e s. sym (end_themselves fields o c x y h.written v spelled s e).0;
   }

@@ -1,6 +1,5 @@
 -- Which rules a message breaks, by its kind.
 use Rattle.std.specs.Prelude.{◌≡◌, List, ℕ, Option, None, Bool, false, not, ◌==◌}
-use Rattle.std.specs.List.{list_any}
 use mathlib.Core.Logic.{inl, inr}
 use Rattle.cms_message.specs.ContentInfo.{content}
 use Rattle.cms_message.specs.Cover.{content_given}
@@ -35,7 +34,3 @@ abbrev pub AreFindings : (JobValue → Verdict) → MessageValue → Option (Lis
 AreFindings answer v detached stamped found =
     (read : Option TstInfo) × IsTstInfoOf (tst_content_in v detached) read
     × (found ≡ findings_in answer v detached stamped read)
-
---- `has_fault found`: one of them is another than F18
-abbrev pub has_fault : List Finding → Bool
-has_fault = list_any (λ f. not (f.code == 18))

@@ -1,4 +1,4 @@
--- What reading a message and writing its DER promises, and the command that does so.
+-- What reading a message and writing its DER promises.
 use Rattle.std.specs.Prelude.{◌≡◌, ℕ, ◌≤◌, List, length, Result, Ok, Err}
 use Rattle.cms_tlv.specs.declared.fault.Fault.{Fault}
 use Rattle.cms_tlv.specs.declared.fault.Fault.TheVariants as faults
@@ -34,32 +34,3 @@ abbrev pub CanonicalFaults : Reading → Writing → ℕ → Tail → Fault → 
 CanonicalFaults r w limit tail (faults.Write written) =
     (m : Whole) × (o : List ℕ) × IsRead r limit tail m × IsDerOf m.value o × WritesPart w o written
 CanonicalFaults r w limit tail e = ExactFaults r limit tail e × WritesNone w
-
---- `IsAnswer r w limit tail a`: `IsCanonicalised` if `a` is Ok, `CanonicalFaults` if it is an error
-abbrev pub IsAnswer : Reading → Writing → ℕ → Tail → Result Done Fault → Type 0
-IsAnswer r w limit tail (Ok d) = IsCanonicalised r w limit tail d
-IsAnswer r w limit tail (Err e) = CanonicalFaults r w limit tail e
-
--- the largest message that the command reads or writes: 256 MiB
-abbrev pub command_limit : ℕ
-command_limit = 268435456
-
---- `fault_status f`, `result_status a`: the exit status for a fault, and for what `canonicalise`
----   returned
-abbrev pub fault_status : Fault → ℕ
-fault_status (faults.Refused reason at) = 3
-fault_status faults.Read = 4
-fault_status (faults.Write written) = 4
-fault_status faults.OutOfMemory = 5
-
--- and for a result
-abbrev pub result_status : {V : Type 0} → Result V Fault → ℕ
-result_status (Ok v) = 0
-result_status (Err e) = fault_status e
-
---- `IsConverted r w status`: `status` is that for what `canonicalise`, with the limit 256 MiB
----   (`command_limit`), returned for the whole input
-abbrev pub IsConverted : Reading → Writing → ℕ → Type 0
-IsConverted r w status =
-    (answer : Result Done Fault) × (status ≡ result_status answer)
-    × IsAnswer r w command_limit tails.Refuse answer

@@ -7,7 +7,6 @@ use Rattle.cms_fields.specs.Received.{IsPart}
 use Rattle.cms_message.specs.Cover.{attributes_along, cover_along, cover_of}
 use Rattle.cms_canon.specs.declared.cover.NoCover.{NoCover}
 use Rattle.cms_canon.specs.declared.cover.NoCover.TheVariants as uncovered
-use Rattle.cms_canon.specs.Conversions.{command_limit, fault_status}
 use Rattle.cms_canon.specs.Given.{IsGiven, GivenFaults}
 use Rattle.cms_canon.specs.Kinds.{MessageValue, signed_data_in}
 use Rattle.cms_canon.specs.Streams.{Reading, Writing, WritesAll, WritesPart, WritesNone}
@@ -18,7 +17,8 @@ use Rattle.cms_canon.specs.Whole.{Whole}
 abbrev pub cover_in : MessageValue → ℕ → Option (List ℕ) → Option (Option (Option (List ℕ)))
 cover_in v signer detached = option_map (λ s. cover_of s signer detached) (signed_data_in v)
 
---- `cover_at v path detached`: the same of the signer or countersignature at a path
+--- `cover_at v path detached`: the cover of the signer or countersignature at a path; none as in
+---   `cover_in`
 abbrev pub cover_at : MessageValue → List ℕ → Option (List ℕ) → Option (Option (Option (List ℕ)))
 cover_at v path detached = option_map (λ s. cover_along s path detached) (signed_data_in v)
 
@@ -46,7 +46,7 @@ pub record Covers (r : Reading) (limit : ℕ) (with_content : Bool) (signer : �
   pub cover_is : cover_in message.value signer detached ≡ cover
   pub attributes : CoversAttributes message.octets message.value (signer ∷ []) cover
 
---- `PourFaults`: the same of a cover that is known, so that there is no fault in reading
+--- `PourFaults`: why a cover that is known was not written; there is no fault in reading
 abbrev pub PourFaults : Writing → Option (Option (Option (List ℕ))) → NoCover → Type 0
 PourFaults w cover uncovered.NoSignedData = (cover ≡ None) × WritesNone w
 PourFaults w cover uncovered.NoSigner = (cover ≡ Some None) × WritesNone w
@@ -81,22 +81,3 @@ CoverFaults r w limit with_content signer (uncovered.Fault faults.OutOfMemory) =
     ⊎ ((c : List ℕ) × Covers r limit with_content signer (Some (Some (Some c))))) × WritesNone w
 CoverFaults r w limit with_content signer (uncovered.Fault e) =
     GivenFaults r limit with_content e × WritesNone w
-
---- `cover_status a`: the exit status for what `write_cover` returned
-abbrev pub cover_status : Result (Unit {0}) NoCover → ℕ
-cover_status (Ok u) = 0
-cover_status (Err (uncovered.Fault e)) = fault_status e
-cover_status (Err e) = 3
-
---- `IsCoverAnswer`: `IsCoverWritten` if `write_cover` returned Ok, `CoverFaults` if it returned an
----   error
-abbrev pub IsCoverAnswer : Reading → Writing → ℕ → Bool → ℕ → Result (Unit {0}) NoCover → Type 0
-IsCoverAnswer r w limit with_content signer (Ok u) = IsCoverWritten r w limit with_content signer
-IsCoverAnswer r w limit with_content signer (Err e) = CoverFaults r w limit with_content signer e
-
---- `IsCovered r w with_content signer status`: `status` is that for what `write_cover`, with the
----   limit 256 MiB, returned for the whole input
-abbrev pub IsCovered : Reading → Writing → Bool → ℕ → ℕ → Type 0
-IsCovered r w with_content signer status =
-    (answer : Result (Unit {0}) NoCover) × (status ≡ cover_status answer)
-    × IsCoverAnswer r w command_limit with_content signer answer

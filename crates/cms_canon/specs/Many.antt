@@ -9,7 +9,6 @@ use Rattle.cms_tlv.specs.declared.fault.Reason.TheVariants as reasons
 use Rattle.cms_canon.specs.declared.many.Many.{Many}
 use Rattle.cms_canon.specs.declared.many.ManyFault.{ManyFault}
 use Rattle.cms_canon.specs.declared.message.Tail.TheVariants as tails
-use Rattle.cms_canon.specs.Conversions.{command_limit, fault_status}
 use Rattle.cms_canon.specs.Denotes.{Denotes, IsAcceptedAs}
 use Rattle.cms_canon.specs.Exact.{ExactFaults}
 use Rattle.cms_canon.specs.Given.{second_part}
@@ -123,20 +122,3 @@ pub record ManyFaults (r : Reading) (w : Writing) (limit : ℕ) (f : ManyFault) 
   pub are : All (IsFaithful limit) conversions
   pub done : f.done ≡ length conversions
   pub stops : StopsAt r w limit conversions f.written f.fault
-
---- `AreAnswer r w limit a`: `AreConverted` if `a` is Ok, `ManyFaults` if it is an error
-abbrev pub AreAnswer : Reading → Writing → ℕ → Result Many ManyFault → Type 0
-AreAnswer r w limit (Ok m) = AreConverted r w limit m
-AreAnswer r w limit (Err f) = ManyFaults r w limit f
-
---- `many_status a`: the exit status for what `canonicalise_many` returned
-abbrev pub many_status : Result Many ManyFault → ℕ
-many_status (Ok m) = 0
-many_status (Err f) = fault_status f.fault
-
---- `AreAllConverted r w status`: `status` is that for what `canonicalise_many`, with the limit 256
----   MiB, returned for the whole input
-abbrev pub AreAllConverted : Reading → Writing → ℕ → Type 0
-AreAllConverted r w status =
-    (answer : Result Many ManyFault) × (status ≡ many_status answer)
-    × AreAnswer r w command_limit answer

@@ -47,7 +47,7 @@ writing contents failures before after =
       failures_after = failures after;
     }
 
--- the same, from what it had taken and how often it had failed
+-- a `Writing`, from what was taken before and how often it had failed
 abbrev pub since : Option (List ℕ) → ℕ → Option (List ℕ) → ℕ → Writing
 since contents failures after fails =
     record {

@@ -1,130 +1,27 @@
-//! `check`: which rules a message breaks, by what is given with it, or by what a reader has: detached
-//! content, or data that were time-stamped.
-ghost use Rattle.std.specs.Prelude.{◌≡◌, ◌≤◌, ◌^◌, ◌↔◌, List, ℕ, true, Option, Some, None, Err, if◌then◌else◌, IfOk, IfErr};
+//! Which rules a message breaks, by what is given with it, or by what a reader has: detached content, or
+//! data that were time-stamped.
+ghost use Rattle.std.specs.Prelude.{◌≡◌, ◌≤◌, ◌^◌, ◌↔◌, List, ℕ, true, Option, Some, None, Err, IfOk, IfErr};
 ghost use Rattle.std.specs.Option.{option_copied};
 ghost use Rattle.cms_tlv.specs.declared.fault.Fault.TheVariants.{OutOfMemory};
-ghost use Rattle.cms_check.specs.declared.report.Finding.{Finding};
 ghost use Rattle.cms_check.specs.declared.verifier.Verdict.TheVariants.{Unknown};
 ghost use Rattle.cms_check.specs.Digests.{AreDigestsOf};
 ghost use Rattle.cms_check.specs.Known.{Correspond};
 ghost use Rattle.cms_check.specs.declared.known.NoReport.TheVariants.{NoDigest, NoOctets};
 ghost use Rattle.cms_canon.specs.Asked.{LacksOneOf, LacksAskedDigest, LacksNeededOctets};
-ghost use Rattle.cms_canon.specs.Answers.{AfterFaults, AreFoundAfter, IsChecked, reads_rest, tail_before};
-ghost use Rattle.cms_canon.specs.Checking.{AreFindings, has_fault};
-ghost use Rattle.cms_canon.specs.Given.{GivenFaults};
+ghost use Rattle.cms_canon.specs.Checking.{AreFindings};
 ghost use Rattle.cms_canon.specs.Rest.{IsRest, RestFaults};
 ghost use Rattle.cms_canon.specs.Streams.{reading};
 
-use crate::answer::Answer;
 use crate::asked::{asked_of_content, asked_of_data, needs_content};
 use crate::digested::digests_from;
-use crate::message::{Message, Tail, View, read_message};
+use crate::message::{Message, View};
 use crate::rest::read_rest;
 use cms_check::{
-    Digests, Finding, Given, GivenDigests, HashAlg, NoReport, NoVerifier, Report, Verifier,
+    Digests, Given, GivenDigests, HashAlg, NoReport, NoVerifier, Report, Verifier,
     check_digests, check_request, check_request_digests, check_response, check_response_digests,
 };
-use cms_command::After;
-use cms_listing::list_findings;
 use cms_tlv::{Fault, Input};
 use std::alloc::{AllocError, Global};
-
-/// Reads a message with what follows it, and lists the rules that it breaks.
-pub(crate) fn check<I: Input>(
-    alloc: Global,
-    input: I,
-    limit: u64,
-    after: After,
-) -> (I, Result<Answer, Fault>)
-    requires { limit ≤ 2 ^ 40 }
-    ensures ok { IfOk result.1 (λ a. IsChecked (reading I.left I.failures input result.0) limit
-        after a.status a.text.items) }
-    ensures faults { IfErr result.1
-        (GivenFaults (reading I.left I.failures input result.0) limit (reads_rest after)) }
-{
-    let (input, message) = read_message(alloc, input, limit, tail_before(after));
-    match message {
-        Ok(message) => checked(alloc, &message, input, limit, after),
-        Err(fault) => (input, Err(fault)),
-    }
-}
-
-fn tail_before(after: After) -> Tail
-    ensures { result ≡ tail_before after }
-{
-    match after {
-        After::Nothing => Tail::Refuse,
-        After::Content | After::Data => Tail::Leave,
-    }
-}
-
-/// What `check` says of a message, with what follows it.
-fn checked<I: Input>(
-    alloc: Global,
-    message: &Message,
-    input: I,
-    limit: u64,
-    after: After,
-) -> (I, Result<Answer, Fault>)
-    requires { limit ≤ 2 ^ 40 }
-    ensures ok { IfOk result.1 (λ a. (found : List Finding)
-        × AreFoundAfter (reading I.left I.failures input result.0) limit after message.now.value
-        found × (a.status ≡ (if has_fault found then 1 else 0))) }
-    ensures faults { IfErr result.1
-        (AfterFaults (reading I.left I.failures input result.0) limit after) }
-{
-    let (input, report) = report_after(alloc, message, input, limit, after);
-    let answer = match report {
-        Ok(report) => findings_listed(alloc, report.findings()),
-        Err(fault) => Err(fault),
-    };
-    (input, answer)
-}
-
-fn report_after<I: Input>(
-    alloc: Global,
-    message: &Message,
-    input: I,
-    limit: u64,
-    after: After,
-) -> (I, Result<Report, Fault>)
-    requires { limit ≤ 2 ^ 40 }
-    ensures ok { IfOk result.1
-        (AreFoundAfter (reading I.left I.failures input result.0) limit after message.now.value) }
-    ensures faults { IfErr result.1
-        (AfterFaults (reading I.left I.failures input result.0) limit after) }
-{
-    match after {
-        After::Nothing => match check_message(alloc, message, None, None, &NoVerifier) {
-            Ok(report) => (input, Ok(report)),
-            Err(_) => (input, Err(Fault::OutOfMemory)),
-        },
-        After::Content => check_content_from(alloc, message, input, limit),
-        After::Data => check_data_from(alloc, message, input, limit),
-    }
-}
-
-fn findings_listed(alloc: Global, findings: &[Finding]) -> Result<Answer, Fault>
-    ensures ok { IfOk result
-        (λ a. a.status ≡ (if has_fault findings.now then 1 else 0)) }
-    ensures err { IfErr result (λ e. e ≡ OutOfMemory) }
-{
-    let mut text = String::new(alloc);
-    if list_findings(alloc, findings, &mut text).is_err() {
-        return Err(Fault::OutOfMemory);
-    }
-    Ok(Answer {
-        text: text.into_bytes(),
-        status: if has_fault(findings) { 1 } else { 0 },
-    })
-}
-
-/// Whether a finding is another than F18, which the verifier of the command has on each signature.
-fn has_fault(findings: &[Finding]) -> bool
-    ensures { result ≡ has_fault findings.now }
-{
-    findings.iter().any(|finding| finding.code != 18)
-}
 
 /// The rules that a message breaks. Of a ContentInfo they are those that its SignedData breaks; of a
 /// response, those that its token breaks and F19, if the status does not agree with the token; of a
@@ -156,8 +53,8 @@ pub fn check_message<V: Verifier>(
     }
 }
 
-/// The same with a verifier that knows of no signature whether it is good, for whatever octets have the
-/// digests that are given: `asked_of_content` and `asked_of_data` say which it asks for, and
+/// The rules that a message breaks, if no signature is judged, whatever octets have the digests that are
+/// given: `asked_of_content` and `asked_of_data` say which it asks for, and
 /// `needs_content` whether the content is needed as octets. `NoOctets` if digests of the content are
 /// given and it is needed as octets, else `NoDigest` if one that it asks for is not among those given,
 /// and `OutOfMemory`.
@@ -287,7 +184,7 @@ pub fn check_content_from<R: Input>(
     }
 }
 
-/// The same for the data that were time-stamped, or are to be.
+/// The rules that a message breaks, if the reader has the data that were time-stamped, or are to be.
 pub fn check_data_from<R: Input>(
     alloc: Global,
     message: &Message,

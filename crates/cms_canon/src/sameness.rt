@@ -1,9 +1,8 @@
-//! `same`: whether two messages are the same.
+//! Whether two messages are the same.
 //!
 //! Messages are compared by their DER, first its lengths and then its octets: one definition of
 //! sameness serves what is written and what is compared.
 ghost use Rattle.std.specs.Prelude.{◌≡◌, ◌≤◌, ◌^◌, IfOk, IfErr};
-ghost use Rattle.cms_canon.specs.Answers.{IsCompared, SaysSame, WhichFaults};
 ghost use Rattle.cms_canon.specs.Kinds.{same_message};
 ghost use Rattle.cms_canon.specs.Streams.{reading};
 ghost use Rattle.cms_canon.specs.Comparing.{IsSame, SameFaults, SecondFaults};
@@ -11,7 +10,6 @@ ghost use Rattle.cms_canon.specs.Messages.{IsRead};
 ghost use Rattle.cms_canon.specs.Whole.{Whole};
 ghost use Rattle.cms_canon.specs.declared.sameness.SameFault.TheVariants as SameFault;
 
-use crate::answer::Answer;
 use crate::laws::message_laws;
 use crate::message::{Message, Tail, put_message, read_message};
 use cms_tlv::{Fault, Input};
@@ -91,8 +89,9 @@ pub fn same<R: Input, S: Input>(
     }
 }
 
-/// Reads a message, and says whether it is the same as `first`. Returns the reader as well.
-pub(crate) fn same_as<I: Input>(
+/// Reads a message, and says whether it is the same as `first`. Returns the reader as well. A fault is
+/// never one of the first.
+pub fn same_as<I: Input>(
     alloc: Global,
     first: &Message,
     input: I,
@@ -120,48 +119,6 @@ fn compared(alloc: Global, first: &Message, second: &Message) -> Result<bool, Sa
 {
     match same_messages(alloc, first, second) {
         Ok(same) => Ok(same),
-        Err(_) => Err(SameFault::OutOfMemory),
-    }
-}
-
-/// Reads a message, and another after it with nothing after that, and says whether they are the same.
-pub(crate) fn compare<I: Input>(
-    alloc: Global,
-    input: I,
-    limit: u64,
-) -> (I, Result<Answer, SameFault>)
-    requires { limit ≤ 2 ^ 40 }
-    ensures ok { IfOk result.1 (λ a. IsCompared (reading I.left I.failures input result.0) limit
-        a.status a.text.items) }
-    ensures faults { IfErr result.1
-        (WhichFaults (reading I.left I.failures input result.0) limit) }
-{
-    let (input, first) = read_message(alloc, input, limit, Tail::Leave);
-    match first {
-        Ok(first) => {
-            let (input, same) = same_as(alloc, &first, input, limit, Tail::Refuse);
-            let answer = match same {
-                Ok(same) => said(alloc, same),
-                Err(fault) => Err(fault),
-            };
-            (input, answer)
-        }
-        Err(fault) => (input, Err(SameFault::First(fault))),
-    }
-}
-
-/// What `same` says.
-fn said(alloc: Global, same: bool) -> Result<Answer, SameFault>
-    ensures ok { IfOk result (λ a. SaysSame same a.status a.text.items) }
-    ensures err { IfErr result (λ e. e ≡ SameFault.OutOfMemory) }
-{
-    let (text, status): (&[u8], u8) = if same {
-        (b"same\n", 0)
-    } else {
-        (b"different\n", 1)
-    };
-    match text.to_vec(alloc) {
-        Ok(text) => Ok(Answer { text, status }),
         Err(_) => Err(SameFault::OutOfMemory),
     }
 }

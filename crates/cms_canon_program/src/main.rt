@@ -1,7 +1,7 @@
 //! The command over the standard streams.
 #![tactic(auto)]
 
-use cms_canon::{report_fault, report_usage, run};
+use cms_cli::{report_fault, report_usage, run};
 use cms_tlv::{Buffered, Fault, Watched};
 use std::io::{BufReader, ErrorKind};
 use std::process::ExitCode;

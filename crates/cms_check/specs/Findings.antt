@@ -81,7 +81,7 @@ findings_with more answer v detached stamped token read =
     findings_of None (message_rules v content stamped token read)
     ++ (findings_of None more ++ of_signers (rules_for answer v content) 0 (borrowed_signers v))
 
---- `findings`: the same without more rules
+--- `findings`: `findings_with` no more rules
 abbrev pub findings : (JobValue → Verdict) → SignedData → Option (List ℕ) → Option (List ℕ) → Bool
     → Option TstInfo → List Finding
 findings = findings_with []

@@ -22,13 +22,13 @@ abbrev pub IsKnownOf : Known → List ℕ → Type 0
 IsKnownOf (known.Octets octets) m = octets.now ≡ m
 IsKnownOf (known.Digests ds) m = AreDigestsOf ds.now m
 
---- `IsContentOf k m`: the same of the content, attached or not [RFC 5652, 5.2]
+--- `IsContentOf k m`: `k` is the content `m`, attached or not, or digests of it [RFC 5652, 5.2]
 abbrev pub IsContentOf : Content → List ℕ → Type 0
 IsContentOf (content.Octets octets) m = octets ≡ m
 IsContentOf (content.Digests ds) m = AreDigestsOf ds.now m
 
---- `AreKnownOf k detached stamped`: the same of the detached content, and of the data that were
----   time-stamped [RFC 3161, 2.4.1]
+--- `AreKnownOf k detached stamped`: `k` is the detached content, and the data that were
+---   time-stamped, or digests of them [RFC 3161, 2.4.1]
 abbrev pub AreKnownOf : AllKnown → Option (List ℕ) → Option (List ℕ) → Type 0
 AreKnownOf k detached stamped =
     Correspond IsKnownOf k.detached detached × Correspond IsKnownOf k.stamped stamped

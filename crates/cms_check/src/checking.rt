@@ -81,8 +81,8 @@ pub struct GivenDigests<'a> {
     pub token: bool,
 }
 
-/// The same as `check` with a verifier that knows of no signature whether it is good, for whatever
-/// octets have the digests that are given. `digests_asked` and `digest_asked_by_token` say which it asks
+/// The rules that a message breaks, if no signature is judged, whatever octets have the digests that are
+/// given. `digests_asked` and `digest_asked_by_token` say which it asks
 /// for, and `needs_octets` whether the content is needed as octets.
 pub fn check_digests(
     alloc: Global,

@@ -32,7 +32,7 @@ pub fn check_request(
     }
 }
 
-/// The same for whatever data have the digests that are given.
+/// The rules that a request breaks, whatever data have the digests that are given.
 pub fn check_request_digests(
     alloc: Global,
     request: &TimeStampReq<'_>,
@@ -84,8 +84,8 @@ pub fn check_response<V: Verifier>(
     }
 }
 
-/// The same as `check_response` with a verifier that knows of no signature whether it is good, for
-/// whatever octets have the digests that are given.
+/// The rules that a response breaks, if no signature is judged, whatever octets have the digests that
+/// are given.
 pub fn check_response_digests(
     alloc: Global,
     response: &TimeStampResp<'_>,

@@ -117,7 +117,7 @@ pub fn check_imprint(imprint: &MessageImprint<'_>, stamped: &[u8]) -> Option<Fin
     }
 }
 
-/// The same by what is known of the data.
+/// The finding on the imprint, by what is known of the data.
 pub(crate) fn imprint_finding(
     imprint: &MessageImprint<'_>,
     stamped: Known<'_>,

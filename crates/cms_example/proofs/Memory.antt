@@ -31,18 +31,12 @@ of_message input rest before output limit m h none w =
     let all : m.octets ≡ input = sym (h.taken ∙ ap (λ t. m.octets ++ t) (h.ended refl) ∙ append-nil m.octets) in
     rw (← all, w.appended, none) record {
       read = m.value;
-      accepted = record {
-        spells = h.message.0;
-        short = h.message.1;
-        canonical = w.octets;
-        written = w.written.value;
-        der_spells = w.written.spells;
-        same = w.written.same;
-        canonical_short = h.writable.1 w.octets w.written;
-      };
+      spells = h.message.0;
+      short = h.message.1;
       written = w.written.value;
       der_spells = w.written.spells;
-      same = w.written.same;
+      is_same = w.written.same;
+      der_short = h.writable.1 w.octets w.written;
     }
 
 -- what was read of a reader of the input
@@ -75,4 +69,4 @@ fault_of limit b given rest faults.OutOfMemory e h = tt
 pub kept_of :
     ((b o : List ℕ) (v w : MessageValue) → whole_message ber b v → whole_message der o w → same_message v w ≡ true → KeepsReceived b o)
     → (limit : ℕ) (b o : List ℕ) → IsAcceptedAs whole_message same_message limit b o → KeepsReceived b o
-kept_of law limit b o h = law b o h.read h.written h.accepted.spells h.der_spells h.same
+kept_of law limit b o h = law b o h.read h.written h.spells h.der_spells h.is_same

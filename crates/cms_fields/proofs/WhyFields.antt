@@ -32,7 +32,7 @@ pub always_told : (paths : Bool) {K : Reason → List ℕ → Type 0} {A : Type 
     → ((bd : Bound) → Explained true K n bd (f bd)) → (bd : Bound) → Explained paths K n bd (f bd)
 always_told paths h bd = under_paths (λ b. path_if paths) (h bd)
 
--- the same of what one of two says
+-- what one of two says
 or_left : {paths : Bool} {K L : Reason → List ℕ → Type 0} {A : Type 0} {n : ℕ} {bd : Bound} {f : Reader A} → Explained paths K n bd f → Explained paths (either_says K L) n bd f
 or_left p = wider (λ r b. inl) p
 

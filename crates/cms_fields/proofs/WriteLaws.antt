@@ -56,7 +56,7 @@ module _ {V : Type 0} {R : Spelling V} {s : V → V → Bool} {v : V} where
       let l2 : length b ≡ length a + suc (length h.0) = ap length h.2 ∙ length-append a (id ∷ h.0) in
       element_of id n h q (omega arith)
 
-  -- the same, from how many octets were appended
+  -- an element, from how many octets were appended
   pub counted_element_writes : (id n : ℕ) {a b c : List ℕ} → AppendsHeader id n a b → Writes R s v b c → length c ≡ length b + n
       → Writes (element der id R) s v a c
   counted_element_writes id n {a} {b} {c} h q e =

@@ -67,8 +67,8 @@ pub record FieldLaws {V : Type 0} (g : Grammar V) : Type 0 where
   pub framed : IsDerFramed (g.spelled der)
   pub explained : (bd : Bound) → Explained g.has_paths g.malformed 1 bd (g.reader bd)
 
---- `ContentsLaws g`: the same of contents (`ReadsTo`, `IsContents`, `Begins`), but that they are
----   frames
+--- `ContentsLaws g`: what `FieldLaws` says, but of contents (`ReadsTo`, `IsContents`, `Begins`),
+---   which need not be frames
 pub record ContentsLaws {V : Type 0} (g : Grammar V) : Type 0 where
   pub reads_to : (m : Rules) → IsReadBy g m → ReadsTo m (g.spelled m) (λ v. v) g.reader
   pub contents : (m : Rules) → IsContents (g.spelled m)
@@ -84,8 +84,8 @@ pub record IsLawful {V : Type 0} (g : Grammar V) : Type 0 where
 
 -- Fields.
 
---- `unread R P s`: what `R` spells, of a value with `P`; it has no reader of its own, and what
----   is made of it gives one [`Received`]
+--- `unread R P s`: what `R` spells; values are the same by `s`, and those with `P` can be written
+--- | it has no reader of its own, and what is made of it gives one [`Received`]
 abbrev pub unread : {V : Type 0} → (Rules → Spelling V) → (V → Type 0) → (V → V → Bool) → Grammar V
 unread R P s = record {
   spelled = R;
@@ -238,7 +238,7 @@ last g = record g {
   reader = last_of g.reader;
 }
 
---- `last_optional g`: the same, but `g` may be absent [`Option`]
+--- `last_optional g`: the field `g`, or nothing, as the last one of contents [`Option`]
 abbrev pub last_optional : {V : Type 0} → Grammar V → Grammar (Option V)
 last_optional g = record {
   spelled = λ m. optional (g.spelled m);

@@ -28,11 +28,11 @@ IsPart z b = (x y : List ℕ) × (b ≡ x ++ (z ++ y))
 abbrev pub times : List ℕ → List (List ℕ) → ℕ
 times z zs = count_by (bytes_eq z) zs
 
---- `in_option f o`: what `f` gives of a value, if there is one
+--- `in_option f o`: what `f` gives for the value in `o`; nothing if there is none
 abbrev pub in_option : {V : Type 0} → (V → List (List ℕ)) → Option V → List (List ℕ)
 in_option f o = flat_map f (option_to_list o)
 
---- `in_either f g x`: what `f` gives of a value of the first kind, or `g` of one of the second
+--- `in_either f g x`: what `f` gives for a value of the first kind, or `g` for one of the second
 abbrev pub in_either : {V W X : Type 0} → (V → X) → (W → X) → V ⊎ W → X
 in_either f g (inl v) = f v
 in_either f g (inr w) = g w

@@ -111,7 +111,7 @@ impl Gathered {
         self.append_element_with_len(ident, n, contents, alloc, kept)
     }
 
-    /// The same for an element of `n` octets.
+    /// `append_element` for an element of `n` octets.
     pub(crate) fn append_element_with_len<T: Write>(
         &mut self,
         ident: u8,

@@ -76,7 +76,7 @@ pub trait Write {
         self.gather_with_len(n, alloc, kept, out)
     }
 
-    /// The same as `append`, for an encoding of `n` octets.
+    /// `append` for an encoding of `n` octets.
     fn append_with_len(
         &self,
         n: u64,
@@ -92,7 +92,7 @@ pub trait Write {
         ensures length { OnOk result (length out.new.items ≡ length out.old.items + n) }
         ensures err { OnErr result (Grew out.old.items out.new.items) };
 
-    /// The same as `gather`, for an encoding of `n` octets.
+    /// `gather` for an encoding of `n` octets.
     fn gather_with_len(
         &self,
         n: u64,
@@ -147,7 +147,7 @@ pub fn put<T: Write>(
     put_with_len(value, value.encoded_len(kept), alloc, kept, out)
 }
 
-/// The same for a value whose encoding has `n` octets, or more if `n` is `u64::MAX`.
+/// `put` for a value whose encoding has `n` octets, or more if `n` is `u64::MAX`.
 pub fn put_with_len<T: Write>(
     value: &T,
     n: u64,
@@ -197,7 +197,7 @@ pub fn append_element<T: Write>(
     append_element_with_len(ident, n, contents, alloc, kept, out)
 }
 
-/// The same for an element of `n` octets.
+/// `append_element` for an element of `n` octets.
 pub(crate) fn append_element_with_len<T: Write>(
     ident: u8,
     n: u64,

@@ -33,8 +33,8 @@ abbrev pub cover_of : SignedData → ℕ → Option (List ℕ) → Option (Optio
 cover_of v i detached =
     option_map (λ s. cover s (content_given v detached)) (slice_get (borrowed_signers v) i)
 
---- `cover_from`: the same from a signer on: without signed attributes, a countersignature covers
----   the signature that it signs [RFC 5652, 11.4]
+--- `cover_from s content path`: the cover of the countersignature at a path from the signer `s`:
+---   without signed attributes, it covers the signature that it signs [RFC 5652, 11.4]
 abbrev pub cover_from : BorrowedSigner → Option (List ℕ) → List ℕ → Option (Option (List ℕ))
 cover_from s content [] = Some (cover s content)
 cover_from s content (i ∷ path) =
@@ -49,7 +49,7 @@ cover_along v (i ∷ path) detached =
     option_and_then (λ s. cover_from s (content_given v detached) path)
     (slice_get (borrowed_signers v) i)
 
---- `signer_from s path`: the same below the signer `s` [RFC 5652, 11.4]
+--- `signer_from s path`: the countersignature at a path from the signer `s` [RFC 5652, 11.4]
 abbrev pub signer_from : BorrowedSigner → List ℕ → Option BorrowedSigner
 signer_from s [] = Some s
 signer_from s (i ∷ path) =
@@ -71,7 +71,7 @@ attributes_along v path = option_map (λ a. a.0) (option_and_then signed_attrs (
 abbrev pub Covered : Type 0
 Covered = Option (List ℕ) × List ℕ
 
---- `covers_below f a`: what `f` gives of the countersignatures of the attribute `a`
+--- `covers_below f a`: what `f` gives for the countersignatures in the attribute `a`
 abbrev pub covers_below : {C : Type 0} → (C → List Covered) → UnsignedAttribute C → List Covered
 covers_below f a = in_either f (λ vs. []) a.1
 

@@ -19,11 +19,12 @@ in_algorithm_identifier v = option_to_list (parameters v)
 abbrev pub in_sid : SignerIdentifier → List (List ℕ)
 in_sid = in_either (λ v. v.0 ∷ []) (λ key. [])
 
---- `in_unsigned f a`: the opaque values of an attribute, or what `f` gives of countersignatures
+--- `in_unsigned f a`: the opaque values of an attribute, or what `f` gives for countersignatures
 abbrev pub in_unsigned : {C : Type 0} → (C → List (List ℕ)) → UnsignedAttribute C → List (List ℕ)
 in_unsigned f a = in_either f (λ vs. vs) a.1
 
---- `in_signer_info f s`: the name, parameters, signedAttrs as one, and those of unsigned attributes
+--- `in_signer_info f s`: the issuer's name, the parameters of both algorithms, signedAttrs as one,
+---   and what `in_unsigned f` gives for unsigned attributes
 abbrev pub in_signer_info : {C : Type 0} → (C → List (List ℕ)) → SignerInfo C → List (List ℕ)
 in_signer_info f s =
     in_sid (sid s) ++
@@ -32,16 +33,17 @@ in_signer_info f s =
     ++ (in_algorithm_identifier (signature_algorithm s)
     ++ in_option (flat_map (in_unsigned f)) (unsigned_attrs s))))
 
--- the same within `d` levels
+--- `in_signer_within d`: the opaque octets in a signer and in all countersignatures below it
 abbrev pub in_signer_within : (d : ℕ) → SignerWithin d → List (List ℕ)
 in_signer_within zero = λ s. []
 in_signer_within (suc d) = in_signer_info (flat_map (in_signer_within d))
 
---- `in_signer`, `in_signer_within d`: those of a signer and all countersignatures below it
+--- `in_signer`: `in_signer_within` for a signer of a message
 abbrev pub in_signer : Signer → List (List ℕ)
 in_signer = in_signer_within 5
 
---- `in_signed_data v`: parameters, certificates, revocation information, and those of signers
+--- `in_signed_data v`: parameters of digestAlgorithms, certificates, revocation information, and
+---   what is opaque in signers
 abbrev pub in_signed_data : SignedData → List (List ℕ)
 in_signed_data v =
     flat_map in_algorithm_identifier (digest_algorithms v)

@@ -103,7 +103,8 @@ abbrev pub SignerWithin : ℕ → Type 0
 SignerWithin zero = ⊥
 SignerWithin (suc d) = SignerInfo (List (SignerWithin d))
 
---- `countersignatures_within d`: a set of them [RFC 5652, 11.4]
+--- `countersignatures_within d`: a set of `SignerWithin d`, which may be empty [RFC 5652, 11.4,
+---   which wants at least one; empty is ours]
 abbrev pub countersignatures_within : (d : ℕ) → Grammar (List (SignerWithin d))
 countersignatures_within zero = no_countersignatures
 countersignatures_within (suc d) = set_of (signer_info (countersignatures_within d))

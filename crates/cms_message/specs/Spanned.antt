@@ -54,6 +54,7 @@ choice_spanned k x = octets_in k x.0.span.start x.0.span.end
 abbrev pub choices_spanned : {I : Type 0} → List ℕ → List (OpaqueAmong I) → List (List ℕ)
 choices_spanned k xs = map (choice_spanned k) xs
 
+--- `algorithm_identifier_spanned k x`: the AlgorithmIdentifier whose parts lie in `k` as `x` says
 abbrev pub algorithm_identifier_spanned : List ℕ → AlgorithmIdentifierSpans → AlgorithmIdentifier
 algorithm_identifier_spanned k x =
     (primitive_spanned k (first (held x.0)), option_map (opaque_spanned k) (others (held x.0)))

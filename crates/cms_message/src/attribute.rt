@@ -291,7 +291,7 @@ impl<'a> Attribute<'a> {
         Countersignatures::new(self.copied())
     }
 
-    /// The same attribute.
+    /// A copy of the attribute.
     fn copied(&self) -> Attribute<'a>
         ensures { result ≡ self.now }
     {

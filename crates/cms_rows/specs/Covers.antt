@@ -18,12 +18,12 @@ octets_of_entry e = in_either (λ octets. octets) (λ bits. []) e.1.1
 abbrev pub Known : Type 0
 Known = (ℕ → Option (List ℕ)) × Option (List ℕ)
 
---- `known_of detached`: the same before the first field
+--- `known_of detached`: what is known before the first field
 abbrev pub known_of : Option (List ℕ) → Known
 known_of detached = ((λ level. detached), None)
 
---- `covered_below level signature f`: the same as `f` of a level, but of the one two below `level`
----   the signature
+--- `covered_below level signature f`: the signature for the level two below `level`, and `f` for
+---   all others
 abbrev pub covered_below : ℕ → List ℕ → (ℕ → Option (List ℕ)) → ℕ → Option (List ℕ)
 covered_below level signature unsigned l = if l == level + 2 then Some signature else unsigned l
 

@@ -63,7 +63,7 @@ module _ {paths : Bool} {K : Reason → List ℕ → Type 0} (k : AreMalformed p
         subst (IsMalformed reason) (sym x.2) (after reason x.1 path (k.within (second_so _ _ e) reason x.1 x.4));
   }
 
--- The same of two.
+-- What either of two says.
 module _ {paths others : Bool} {K L : Reason → List ℕ → Type 0} (k : AreMalformed paths K) (l : AreMalformed others L) where
   pub both : AreMalformed (paths && others) (either_says K L)
   both = record { within = go }

@@ -247,7 +247,7 @@ fn significant(contents: &[u8]) -> Option<BitOctets<'_>>
     }
 }
 
-/// The same for octets of bits, of which `count` bits are unused.
+/// The significant bits of `octets`, of which the last `count` bits are unused.
 fn significant_of(count: u8, octets: &[u8]) -> Option<BitOctets<'_>>
     requires { count < 8 }
     ensures none { IsNone result → used_bits count octets.now ≡ [] }

@@ -39,7 +39,7 @@ pub(crate) enum Part {
     Whole,
     /// What the signature of the first signer covers.
     Cover,
-    /// The same, found by its path.
+    /// That cover, found by its path.
     CoverAlongPath,
     /// The text of the first digest algorithm's identifier.
     Dotted,

@@ -47,13 +47,13 @@ fn put_word(alloc: Global, octets: &[u8], line: &mut String) -> Result<(), Alloc
     line.push_str(" ")
 }
 
-/// The same for octets in pieces.
+/// Appends octets in pieces as one word.
 fn put_pieces(alloc: Global, pieces: &[&[u8]], line: &mut String) -> Result<(), AllocError> {
     let octets = pieces.concat(alloc)?;
     put_word(alloc, &octets, line)
 }
 
-/// The same for what identifies a signer: the key identifier, or the serial number.
+/// Appends what identifies a signer: the key identifier, or the serial number.
 fn put_signer(
     alloc: Global,
     sid: &SignerIdentifier<'_>,
@@ -70,7 +70,7 @@ fn put_signer(
     }
 }
 
-/// The same for the identifiers of the signature's algorithm and of the digest algorithm.
+/// Appends the identifiers of the signature's algorithm and of the digest algorithm.
 fn put_algorithms(alloc: Global, job: &Job<'_>, line: &mut String) -> Result<(), AllocError> {
     put_word(alloc, job.signature_algorithm.algorithm().octets(), line)?;
     put_word(alloc, job.digest_algorithm.algorithm().octets(), line)

@@ -1,6 +1,6 @@
 //! The words of the command line.
 use crate::asserts::assert_same;
-use cms_command::{After, NoTask, Task, task_of};
+use cms_cli::{After, NoTask, Task, task_of};
 use std::alloc::Global;
 
 /// What comes of words.

@@ -20,7 +20,7 @@ const PAIRS: &[(&str, &str, bool)] = &[
     (WHOLE_CONTENT, SMALLEST, false),
     (SMALLEST_REQUEST, SMALLEST_REQUEST, true),
     (SMALLEST_REQUEST, SMALLEST, false),
-    // The same length of DER.
+    // DER of equal length.
     (
         SMALLEST,
         "302306092a864886f70d010702a01630140201023100300b06092a864886f70d0107013100",
@@ -116,7 +116,7 @@ fn assert_readers_fail(rt: &(impl Abort + AllocGlobal), octets: &[u8], room: usi
     }
 }
 
-/// The same for readers with a small buffer.
+/// Comparisons by readers with a small buffer.
 fn assert_buffers_fail(
     rt: &(impl Abort + AllocGlobal),
     octets: &[u8],

@@ -129,7 +129,7 @@ fn assert_limited(
     }
 }
 
-/// The same under each tail.
+/// Conversions under each tail.
 fn assert_under_tails(rt: &(impl Abort + AllocGlobal), case: &Limited) -> Result<(), Fail> {
     let (input, output) = both(rt.alloc(), case.input, case.want.unwrap_or(""))?;
     for tail in case.tails {

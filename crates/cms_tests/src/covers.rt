@@ -3,7 +3,7 @@ use crate::asserts::{assert_hex, assert_holds, assert_same};
 use crate::samples::{COVERED, LIMIT, SIGNED, SMALLEST_REQUEST, TWO_SIGNERS, message_of};
 use cms_canon::{NoCover, write_cover};
 use cms_message::{CoverFault, SignedData};
-use cms_streams::Reluctant;
+use crate::streams::Reluctant;
 use cms_tlv::{Fault, Reason, Watched};
 use std::alloc::Global;
 use std::io::ErrorKind;

@@ -1,5 +1,5 @@
 //! Readers that fail once and would then give the rest, and what is left of them.
-use cms_streams::Reluctant;
+use crate::streams::Reluctant;
 use cms_tlv::{Buffered, Input, Watched};
 use std::alloc::Global;
 use std::io;
@@ -31,7 +31,7 @@ pub fn slow(octets: &[u8], room: usize, failure: ErrorKind) -> Watched<Reluctant
     Watched::new(Reluctant::new(octets, usize::MAX, room, failure))
 }
 
-/// The same with a small buffer, whose octets are at hand.
+/// A reader like `slow` with a small buffer, whose octets are at hand.
 pub fn buffered(
     alloc: Global,
     octets: &[u8],

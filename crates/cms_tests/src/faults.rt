@@ -4,7 +4,7 @@ use crate::converted::{Expected, assert_converted};
 use crate::failing::{FAILURES, Remaining, buffered, slow};
 use crate::samples::{ACCEPTED, LIMIT, Sample, both};
 use cms_canon::{Done, Tail, canonicalise};
-use cms_streams::{Full, LimitedWriter};
+use crate::streams::{Full, LimitedWriter};
 use cms_tlv::{Fault, Slice, Watched};
 use std::alloc::Global;
 use std::io::ErrorKind;

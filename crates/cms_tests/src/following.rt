@@ -8,7 +8,7 @@ use cms_canon::{
     check_message_digests, digests_from, needs_content,
 };
 use cms_check::{Finding, HashAlg, NoVerifier, Report, digest};
-use cms_streams::Ended;
+use crate::streams::Ended;
 use cms_tlv::{Fault, Input, MAX_LIMIT, Reason, Slice, Watched};
 use std::alloc::{AllocError, Global};
 use std::io::ErrorKind;
@@ -35,7 +35,7 @@ fn assert_content(
     Ok(())
 }
 
-/// The same of data.
+/// Data that follow a message are checked as they are read, as they are in one piece.
 fn assert_data(
     rt: &(impl Abort + AllocGlobal),
     message: &Message,

@@ -1,4 +1,5 @@
-//! The tests that cross crates, on public calls only; there is nothing here for a program.
+//! The tests, on public calls only; there is nothing here for a program. Those of `cms_tlv` are in
+//! `elements`, those of the parts of records in `parts`, and those of messages beside these.
 //!
 //! A case has the name and the octets of the test vector that it comes from, and so has what it
 //! expects.
@@ -25,6 +26,8 @@ mod covers;
 #[cfg(test)]
 mod digests_given;
 #[cfg(test)]
+mod elements;
+#[cfg(test)]
 mod example;
 #[cfg(test)]
 mod failing;
@@ -43,6 +46,8 @@ mod many;
 #[cfg(test)]
 mod messages;
 #[cfg(test)]
+mod parts;
+#[cfg(test)]
 mod records;
 #[cfg(test)]
 mod rests;
@@ -52,5 +57,7 @@ mod rows;
 mod samples;
 #[cfg(test)]
 mod signers;
+#[cfg(test)]
+mod streams;
 #[cfg(test)]
 mod time_stamps;

@@ -5,7 +5,7 @@ use crate::asserts::{assert_holds, assert_same};
 use crate::converted::{Expected, assert_converted};
 use crate::samples::LIMIT;
 use cms_canon::{Tail, read_message};
-use cms_streams::{Counting, Endless};
+use crate::streams::{Counting, Endless};
 use cms_tlv::{Fault, MAX_LIMIT, Reason, Slice, Watched};
 use hex::FromHexError;
 use std::alloc::{AllocError, Global};
@@ -31,7 +31,7 @@ const INDEFINITE: Around = Around {
     after: "000000003100000000000000",
 };
 
-/// The same, and one octet after it.
+/// What is around the content of a message, and one octet after the message.
 const FOLLOWED: Around = Around {
     before: BEFORE,
     after: "00000000310000000000000000",

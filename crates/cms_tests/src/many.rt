@@ -3,7 +3,7 @@ use crate::asserts::{assert_holds, assert_same};
 use crate::failing::{Remaining, buffered, slow};
 use crate::samples::{ACCEPTED, LIMIT, SMALLEST, SMALLEST_REQUEST};
 use cms_canon::{Many, ManyFault, canonicalise_many};
-use cms_streams::{Ended, Full, LimitedWriter, Reluctant};
+use crate::streams::{Ended, Full, LimitedWriter, Reluctant};
 use cms_tlv::{Fault, Input, MAX_LIMIT, Reason, Slice, Watched};
 use std::alloc::Global;
 use std::io::ErrorKind;
@@ -223,7 +223,7 @@ fn assert_read_fails<R: Remaining>(
     assert_same(rt, (room, reader.remaining()), (room, remaining), name);
 }
 
-/// The same for readers that fail in this way.
+/// Messages from readers that fail in this way.
 fn assert_reads_fail(
     rt: &(impl Abort + AllocGlobal),
     input: &[u8],

@@ -188,7 +188,7 @@ fn message_put(rt: HostRuntime) -> Result<(), Fail> {
     assert_hex(&rt, put, WHOLE_CONTENT, "what is put")
 }
 
-/// The same in a slice: one that is longer, one of its very length, and one that is too short.
+/// A message put into a slice: one that is longer, one of its very length, and one that is too short.
 #[test]
 fn message_put_into(rt: HostRuntime) -> Result<(), Fail> {
     let message = message_of(rt.alloc(), SEGMENTED_CONTENT)?;

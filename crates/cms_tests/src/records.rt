@@ -2,7 +2,7 @@
 use crate::asserts::assert_same;
 use crate::samples::{LIMIT, REQUEST, SEGMENTED_CONTENT};
 use cms_message::{ContentInfo, ContentInfoSpans, read_content_info};
-use cms_streams::Reluctant;
+use crate::streams::Reluctant;
 use cms_tlv::{Bound, Fault, Input, Reason, SEQUENCE, Source, Watched};
 use cms_tsp::{
     TimeStampReq, TimeStampReqSpans, TimeStampResp, TimeStampRespSpans, read_request, read_response,

@@ -3,7 +3,7 @@ use crate::asserts::assert_same;
 use crate::failing::{FAILURES, Remaining, buffered, slow};
 use crate::samples::LIMIT;
 use cms_canon::read_rest;
-use cms_streams::{Counting, Ended};
+use crate::streams::{Counting, Ended};
 use cms_tlv::{Fault, Input, MAX_LIMIT, Reason, Watched};
 use std::alloc::{AllocError, Global};
 use std::io::ErrorKind;
@@ -28,7 +28,7 @@ fn assert_rest_fails<R: Remaining>(
     assert_same(rt, (room, reader.remaining()), (room, remaining), "left");
 }
 
-/// The same for readers that fail in each way after they gave so many octets.
+/// Readers that fail in each way after they gave so many octets.
 fn assert_rests_fail(
     rt: &(impl Abort + AllocGlobal),
     octets: &[u8],
@@ -76,7 +76,7 @@ fn octets(alloc: Global, count: usize) -> Result<Vec<u8>, AllocError> {
     vec![in alloc; 0x61; count]
 }
 
-/// The same of a rest that is read in two pieces.
+/// A rest that is read in two pieces.
 #[test]
 fn failing_reads_of_a_long_rest(rt: HostRuntime) -> Result<(), Fail> {
     let long = octets(rt.alloc(), 10_000)?;

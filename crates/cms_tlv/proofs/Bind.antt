@@ -16,7 +16,7 @@ reaches_then {f = f} {a = a} p q = record {
   refines = λ ys. ap (λ (t : List ℕ). f (cursor a t)) (append_assoc p.more q.more ys) ∙ p.refines (q.more ++ ys) ∙ q.refines ys;
 }
 
--- the same is read at a state
+-- two readers that read alike at a state
 pub reaches_same : {A : Type 0} {f g : Reader A} (s : State) → ((ys : List ℕ) → f (cursor s ys) ≡ g (cursor s ys)) → Simulates f s g s
 reaches_same s e = record { more = []; took = Advance-fault s s.fault (λ e. e) (λ e. e); refines = e }
 

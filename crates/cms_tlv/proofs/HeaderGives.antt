@@ -83,7 +83,7 @@ refused_at {f = f} {a = a} {b = b} {c = c} {e = e} reason sound n settled p k s 
     let w : c ≡ with_fault b (Some at) = s ∙ ap (λ (x : Fault). with_fault b (Some x)) t in
     subst (λ (x : Fault). Failed f a c x) (sym t) (subst (λ (x : State). Failed f a x at) (sym w) h)
 
--- The same, where all is refused.
+-- A reader that refuses everything.
 pub refused_as : {A : Type 0} {f g : Reader A} {a b c : State} {e : Fault} (reason : Reason) → b.fault ≡ None → reason ≢ Truncated → Settled reason b
     → Simulates f a g b → g ≡ refuse reason → c ≡ with_fault b (Some e) → e ≡ faults.Refused reason (position b) → Failed f a c e
 refused_as {b = b} reason sound n settled p k s t = refused_at reason sound n settled p (λ ys. ap (λ r. r (cursor b ys)) k) s t

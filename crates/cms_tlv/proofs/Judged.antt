@@ -35,7 +35,7 @@ pub refused_behind :
     → e ≡ faults.Refused reason (position b) → Failed {V = B} (f >>= λ x. refuse reason) a c e
 refused_behind B reason n settled g p q = refused_as reason g.sound n settled (reaches_bind (λ x. refuse reason) g.reaches) refl p q
 
--- a field of which Q is true, told by a test that may depend on where it ends
+-- a field of which Q is true, decided by a test that may depend on its end
 pub where_reads_in :
     {V : Type 0} {m : Rules} {R : Spelling V} {f : Bound → Reader V} {Q : V → Type 0} (test : Bound → V → Bool) (reason : Reason)
     → reason ≢ Truncated → ((bd : Bound) (b : List ℕ) (v : V) → Follows m bd → R b v → test bd v ≡ true → Q v)

@@ -122,7 +122,7 @@ module _ {S V W : Type 0} (view : State → V → W) (f : S → Bound → Reader
             ∙ ap (λ z. map (view s1) vs ++ z ∷ []) (ap (λ p. p.1) (q.lasts d j)) ∙ prefix;
       }
 
-  -- the same, where it is known that octets were consumed
+  -- one more is read, if it is known that octets were consumed
   pub more_moved : (s0 s1 s2 s3 : State) (now next : S) (vs : List V) (t : ℕ) (v : V) → length s2.done < length s3.done
       → HasRead view f from bd s0 s1 now vs → RefinesWithValue plain (peek_of bd) s1 s2 (Some t)
       → RefinesWithValue (λ s x. (next, view s x)) (f now bd) s2 s3 v → HasRead view f from bd s0 s3 next (vs ++ v ∷ [])

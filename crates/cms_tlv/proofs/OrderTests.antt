@@ -1,4 +1,4 @@
--- The order of the members of a set, told by a test.
+-- The order of the members of a set, decided by a test.
 use Rattle.std.proofs.Common.{◌≡◌, ◌⊎◌, inl, inr, ℕ, zero, suc, ◌<◌, Bool, true, false, eqb, ltb, ◌&&◌, ◌||◌, List, [], ◌∷◌, refl, arith}
 use Rattle.std.proofs.lemmas.Bool.{or_left, or_right, eqb-true, ltb-true}
 use Rattle.cms_tlv.specs.Order.{octet_at, ComesAfter, comes_after}

@@ -16,7 +16,7 @@ path_then start q = q
 path_then {b = b} (past {f = f} {c = c} h p) q = subst IsPath (sym (append_assoc f c b)) (past h (path_then p q))
 path_then {b = b} (into {h = h} {c = c} i k p) q = subst IsPath (sym (append_assoc h c b)) (into i k (path_then p q))
 
--- The same if they have to be paths.
+-- A path, if one is asked for.
 pub path_if : (paths : Bool) {b : List ℕ} → IsPath b → IsPathIf paths b
 path_if true p = p
 path_if false p = tt

@@ -34,7 +34,7 @@ pub room_less : (end : Option ℕ) (limit at n m : ℕ) → m ≤ n → Room end
 room_less None limit at n m h r = (tt, omega (arith, r.1))
 room_less (Some e) limit at n m h r = (omega (arith, r.0), omega (arith, r.1))
 
--- the same room, from another place
+-- as much room, from another place
 pub room_from : (end : Option ℕ) (limit at limit' at' n n' : ℕ) → limit ≡ limit' → at' + n' ≤ at + n → Room end limit at n → Room end limit' at' n'
 room_from None limit at limit' at' n n' l h r = (tt, omega (arith, r.1))
 room_from (Some e) limit at limit' at' n n' l h r = (omega (arith, r.0), omega (arith, r.1))

@@ -75,7 +75,7 @@ module _ {V W A : Type 0} {m : Rules} {R : Spelling V} {S : Spelling W} {k : V �
     ];
   }
 
--- the same spelling in other words
+-- a spelling in other words
 pub respelled : {W X A : Type 0} {m : Rules} {S : Spelling W} {T : Spelling X} {k : W → A} {g : Bound → Reader A} (to : W → X) (of : X → W)
     → ((b : List ℕ) (w : W) → S b w → T b (to w)) → ((b : List ℕ) (x : X) → T b x → S b (of x)) → ((w : W) → of (to w) ≡ w)
     → ReadsTo m S k g → ReadsTo m T (λ x. k (of x)) g

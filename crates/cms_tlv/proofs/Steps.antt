@@ -55,7 +55,7 @@ Advance-fault s f n r =
 pub accounts_then : {a b c : State} → Accounts a b → Accounts b c → Accounts a c
 accounts_then p q = record { more = p.more ++ q.more; took = Advance-then p.took q.took }
 
--- nothing happened but that a fault may stand
+-- nothing happened, except that a fault may have been stored
 pub accounts_fault : (s : State) (f : Option Fault) → s.fault ≡ None → Accounts s (with_fault s f)
 accounts_fault s f n = record { more = []; took = Advance-fault s f (λ _. n) (λ _. not_read n) }
 

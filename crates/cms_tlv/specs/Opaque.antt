@@ -4,7 +4,8 @@ use Rattle.cms_tlv.specs.Headers.{AreOctets, IsConstructed, IsIdentifier, IsShor
 use Rattle.cms_tlv.specs.Spelling.{Spelling}
 
 --- `IsPrimitiveType k`: an element of the universal type with the tag number `k` has to be
----   primitive, as it is in DER [X.690, 8.2 to 8.8, 8.19, 8.23, 8.25, 10.2]
+---   primitive, as it is in DER [X.690, 8.2 to 8.4, 8.6 to 8.8, 8.19, 8.23,
+---   8.25, 10.2]
 --- | this is not asked of ObjectDescriptor, REAL, RELATIVE-OID and TIME (7, 9, 13, 14), nor of tag
 ---   numbers above 30 [ours]
 abbrev pub IsPrimitiveType : ℕ → Type 0

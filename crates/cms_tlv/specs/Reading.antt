@@ -61,7 +61,7 @@ unfoldable pub octet_of : Option ℕ → Reader ℕ
 octet_of end = λ c. if is_past end c.at then Err (stop Overrun c.at)
     else if nat_le c.limit c.at then Err (stop TooLarge c.at) else first_octet c.at c.limit c.rest
 
--- the same, and it is read again
+-- what was read, without moving on: it is read again
 abbrev pub again : {A : Type 0} → Cursor → Result (A × Cursor) Stop → Result (A × Cursor) Stop
 again c (Ok p) = Ok (p.0, c)
 again c (Err e) = Err e

@@ -45,7 +45,7 @@ IsPathIf true b = IsPath b
 IsPathIf false b = Unit {0}
 
 --- `Lasts c reason at`, `Ties`, `TiesLast paths`: a pure reader stopped after such a header; or no
----   octets have to say why; the same of the last header, after octets that `IsPathIf paths`
+---   octets have to say why; or either is so after octets that `IsPathIf paths`
 pub record Lasts (c : Cursor) (reason : Reason) (at : ℕ) : Type 0 where
   pub identifier : List ℕ
   pub sizes : List ℕ
@@ -59,7 +59,7 @@ pub record Lasts (c : Cursor) (reason : Reason) (at : ℕ) : Type 0 where
 abbrev pub Ties : Cursor → Reason → ℕ → Type 0
 Ties c reason at = NeedsNoOctets c.limit at reason ⊎ Lasts c reason at
 
--- the same of the last header, after octets that are a path if `paths`
+-- what `Ties` says, but of the last header, which follows a path if `paths`
 pub record TiesLast (paths : Bool) (c : Cursor) (reason : Reason) (at : ℕ) : Type 0 where
   pub prefix : List ℕ
   pub path : IsPathIf paths prefix
@@ -105,7 +105,7 @@ abbrev pub says_element : ℕ → (List ℕ → Type 0) → Reason → Reason �
 says_element id P refusal reason b =
     (c : List ℕ) × (reason ≡ refusal) × Contains id false b c × P c
 
---- `says_malformed id P malformed`: the same if the contents are not `P`
+--- `says_malformed id P malformed`: `says_element` of contents that are not `P`
 abbrev pub says_malformed : ℕ → (List ℕ → Type 0) → Reason → Reason → List ℕ → Type 0
 says_malformed id P malformed = says_element id (λ c. P c → ⊥) malformed
 
@@ -149,8 +149,8 @@ Tied old new (faults.Refused reason at) =
     ⊎ HeaderTaken old new (λ t l. HeaderSays old.limit (length new.done) t l reason)
 Tied old new e = Unit {0}
 
---- `TiedLast paths old new f`: the same of the last header, if octets were taken before it; they
----   are a path if `paths`
+--- `TiedLast paths old new f`: what `Tied` says, but of the last header; octets taken before it are
+---   a path if `paths`
 abbrev pub TiedLast : Bool → State → State → Fault → Type 0
 TiedLast paths old new e =
     (before : List ℕ) × IsPathIf paths before

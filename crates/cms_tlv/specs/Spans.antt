@@ -20,7 +20,7 @@ octets_in kept start end =
 abbrev pub LiesIn : Span → State → Type 0
 LiesIn span s = (span.start ≤ span.end) × (span.end ≤ length s.done)
 
---- `span_of near`: the same span with places of the common width
+--- `span_of near`: the span with places of the common width
 abbrev pub span_of : NearSpan → Span
 span_of near = record { start = near.start; end = near.end }
 

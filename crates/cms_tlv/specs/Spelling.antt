@@ -54,7 +54,7 @@ join bs = flat_map (λ b. b) bs
 abbrev pub rows : {V : Type 0} → Spelling V → Spelling (List V)
 rows R b vs = (bs : List (List ℕ)) × (b ≡ join bs) × AllZip R bs vs
 
---- `members m R`: the same, and the spellings are `InOrder` [X.690, 8.12, 11.6]
+--- `members m R`: spellings by `R` of the values, which are `InOrder` [X.690, 8.12, 11.6]
 abbrev pub members : {V : Type 0} → Rules → Spelling V → Spelling (List V)
 members m R b vs = (bs : List (List ℕ)) × (b ≡ join bs) × AllZip R bs vs × InOrder m bs
 

@@ -145,7 +145,7 @@ pub record Succeeds (old new : State) : Type 0 where
   pub accounts : Accounts old new
   pub sound : new.fault ≡ None
 
---- `Progresses old new`: the same, and at least one octet was consumed
+--- `Progresses old new`: `Succeeds`, and at least one octet was consumed
 pub record Progresses (old new : State) : Type 0 where
   pub goes : Succeeds old new
   pub some : length old.done < length new.done

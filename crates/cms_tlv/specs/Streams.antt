@@ -24,7 +24,8 @@ pub record Fills (left left' : Option (List ℕ)) (before after : List ℕ) (n :
   pub count : length octets ≡ n
   pub consumed : Consumes left left' octets
 
---- `Accepted P left left' before after n`: the same of `n` octets with `P`, or of none
+--- `Accepted P left left' before after n`: `Fills` of `n` octets, and these have
+---   `P` or are none
 pub record Accepted (P : List ℕ → Type 0) (left left' : Option (List ℕ)) (before after : List ℕ)
     (n : ℕ) : Type 0 where
   pub fills : Fills left left' before after n

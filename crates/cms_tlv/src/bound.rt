@@ -30,7 +30,7 @@ impl Bound {
         }
     }
 
-    /// The same end, inside signed attributes.
+    /// A bound with this end, inside signed attributes.
     pub fn strict(self) -> Bound
         ensures { result ≡ record self { strict = true } }
     {

@@ -60,7 +60,7 @@ impl<R: Input> Source<R> {
         self.contents_by_pieces(n)
     }
 
-    /// The same, in pieces.
+    /// `contents`, but the octets are taken in pieces.
     fn contents_by_pieces(&mut self, n: u64) -> Result<Span, Fault>
         requires sound { self.old.fault ≡ None }
         requires clear { self.old.ahead ≡ None }

@@ -58,7 +58,7 @@ impl<R: Input> Source<R> {
         self.enter_by_octets(bound, ident)
     }
 
-    /// The same, whose header is read octet by octet.
+    /// `enter`, but the header is read octet by octet.
     fn enter_by_octets(&mut self, bound: &Bound, ident: u8) -> Result<Bound, Fault>
         requires sound { self.old.fault ≡ None }
         ensures clear { OnOk result (self.new.ahead ≡ None) }
@@ -147,7 +147,7 @@ impl<R: Input> Source<R> {
         }))
     }
 
-    /// The same, whose header is read before its contents.
+    /// `primitive`, but the header is read before its contents.
     fn primitive_after_header(&mut self, bound: &Bound, ident: u8) -> Result<Span, Fault>
         requires sound { self.old.fault ≡ None }
         ensures clear { OnOk result (self.new.ahead ≡ None) }

@@ -191,7 +191,7 @@ impl<R: Input> Source<R> {
         self.expected_by_octets(bound)
     }
 
-    /// The same, octet by octet.
+    /// `expected_header`, but the header is read octet by octet.
     pub(crate) fn expected_by_octets(&mut self, bound: &Bound) -> Result<Header, Fault>
         requires sound { self.old.fault ≡ None }
         ensures clear { OnOk result (self.new.ahead ≡ None) }

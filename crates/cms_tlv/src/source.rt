@@ -84,7 +84,7 @@ impl<R: Input> Source<R> {
         Source::with_buffer(Vec::new(alloc), reader, limit)
     }
 
-    /// The same, which keeps the octets taken in the room of `buffer`. What is in `buffer` is dropped.
+    /// A source that keeps the octets taken in the room of `buffer`. What is in `buffer` is dropped.
     pub fn with_buffer(mut buffer: Vec<u8>, reader: R, limit: u64) -> Source<R>
         ensures { result ≡ record {
           done = [];

@@ -129,7 +129,7 @@ fn both(first: Span, second: Span, alloc: Global) -> Result<Places, AllocError>
     Ok(Places::Far(far))
 }
 
-/// The same spans with places of the common width. An error means out of memory.
+/// The spans with places of the common width. An error means out of memory.
 fn widened(near: &[NearSpan], alloc: Global) -> Result<Vec<Span>, AllocError>
     ensures { IfOk result (λ far. far.items ≡ map span_of near.now) }
 {

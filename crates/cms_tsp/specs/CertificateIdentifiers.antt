@@ -18,14 +18,13 @@ borrowed_cert_id x = (x.algorithm.now, x.hash.now)
 -- PolicyInformation OPTIONAL } (5)
 -- SigningCertificateV2 ::= SEQUENCE { certs SEQUENCE OF ESSCertIDv2, policies SEQUENCE OF
 -- PolicyInformation OPTIONAL } (3)
--- the contents of the first of certs
 --- `first_of_certs b`: the contents of the first member of certs in `b` [RFC 5035, 3, 5]
 abbrev pub first_of_certs : List ℕ → Option (List ℕ)
 first_of_certs value =
     option_and_then (first_contents 0x30)
     (option_and_then (first_contents 0x30) (first_contents 0x30 value))
 
--- certHash; Hash ::= OCTET STRING
+-- Hash ::= OCTET STRING; a certHash is one
 --- `cert_hash b`: the contents of the OCTET STRING that `b` begins with [RFC 5035, 4, 6]
 abbrev pub cert_hash : List ℕ → Option (List ℕ)
 cert_hash octets = first_contents 0x04 octets
@@ -38,7 +37,6 @@ ess_cert_id c = option_map (λ hash. (id_sha1, hash)) (cert_hash c)
 
 -- AlgorithmIdentifier ::= SEQUENCE { algorithm OBJECT IDENTIFIER, parameters ANY DEFINED BY
 -- algorithm OPTIONAL } (RFC 5280, 4.1.1.2)
--- the algorithm, if it is well-formed
 --- `algorithm_in c`: the OBJECT IDENTIFIER, if it is well-formed, of the AlgorithmIdentifier with
 ---   the contents `c` [RFC 5035, 4]
 abbrev pub algorithm_in : List ℕ → Option (List ℕ)

@@ -1,6 +1,6 @@
 //! Time-stamping requests and responses, and what a token says (RFC 3161, sections 2.4.1 and 2.4.2):
-//! where their parts lie in the kept octets, and the views that lend them. Some are types of their own
-//! around their terms, as in `cms_message`. And the certificate that a signing-certificate attribute
+//! the places of their parts in the kept octets, and the views that lend them. Some are types of their
+//! own around their terms, as in `cms_message`. And the certificate that a signing-certificate attribute
 //! names (RFC 5035).
 #![tactic(auto)]
 

@@ -1,3 +1,4 @@
+use Rattle.std.proofs.Common.{refl}
 use Rattle.cms_tlv.specs.Spelling.{ber}
 use Rattle.cms_canon.proofs.Headline.{der_unchanged}
 use Rattle.cms_canon.proofs.MessageLaws.{message_kind}
@@ -15,12 +16,4 @@ pub returns-clause-ber : goal.returns-clause-ber
 returns-clause-ber c o v d = c.message_laws.ensures.by_der.within o v d
 
 pub returns-clause-accepts : goal.returns-clause-accepts
-returns-clause-accepts c limit o v d l = record {
-  spells = c.message_laws.ensures.by_der.within o v d;
-  short = l;
-  canonical = o;
-  written = v;
-  der_spells = d;
-  same = c.message_laws.ensures.by_der.equivalence.refl v;
-  canonical_short = l;
-}
+returns-clause-accepts c limit o v d l = (o, returns-clause-accepted c limit o v d l, refl)

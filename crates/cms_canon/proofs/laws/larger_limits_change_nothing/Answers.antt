@@ -1,4 +1,3 @@
-use Rattle.std.proofs.Common.{arith}
 use Rattle.cms_tlv.specs.Spelling.{ber}
 use Rattle.cms_canon.proofs.Headline.{one_for_each}
 use Rattle.cms_canon.proofs.MessageLaws.{message_kind}
@@ -11,12 +10,4 @@ returns-clause-written c limit larger b o l h =
     (w, λ q x. one_for_each (message_kind (c.message_laws.ensures.is_field ber) c.message_laws.ensures.by_der) larger b o q w x)
 
 pub returns-clause-accepts : goal.returns-clause-accepts
-returns-clause-accepts c limit larger b v l h = record {
-  spells = h.spells;
-  short = omega (arith, h.short, l);
-  canonical = h.canonical;
-  written = h.written;
-  der_spells = h.der_spells;
-  same = h.same;
-  canonical_short = omega (arith, h.canonical_short, l);
-}
+returns-clause-accepts c limit larger b v l h = (h.0, larger_written limit larger b h.0 l h.1, h.2)

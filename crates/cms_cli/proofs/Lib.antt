@@ -1,0 +1,6 @@
+mod Entered
+mod CoverWords
+mod Words
+mod Answered
+mod AfterLaws
+mod PairLaws

@@ -1,3 +1,0 @@
-mod Entered
-mod CoverWords
-mod Words

@@ -1,0 +1,13 @@
+//! Tests of the parts that records are put together from, and of sets, on public calls only.
+
+mod bits;
+mod fields;
+mod parts;
+mod records;
+mod rows;
+mod scalars;
+mod sets;
+mod sketches;
+mod sources;
+mod strings;
+mod times;
