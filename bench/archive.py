@@ -248,7 +248,7 @@ def main(words):
 
     with tempfile.TemporaryDirectory(prefix="archive-") as folder:
         home = Path(folder)
-        shutil.copytree(TOP / "python" / "cms_canon", home / "cms_canon")
+        shutil.copytree(TOP / "bindings" / "python" / "cms_canon", home / "cms_canon")
         shutil.copy(RELEASE / "libcms_canon.so", home / "cms_canon")
         sys.path.insert(0, str(home))
         os.environ["PYTHONPATH"] = str(home)

@@ -96,7 +96,7 @@ def main(words):
     rows = int(words[0]) if words else ROWS
     with tempfile.TemporaryDirectory(prefix="stores-") as folder:
         home = Path(folder)
-        shutil.copytree(TOP / "python" / "cms_canon", home / "cms_canon")
+        shutil.copytree(TOP / "bindings" / "python" / "cms_canon", home / "cms_canon")
         shutil.copy(RELEASE / "libcms_canon.so", home / "cms_canon")
         sys.path.insert(0, str(home))
         making = filled([made(home, "nothing")] * PROCESSES, 0)

@@ -39,7 +39,7 @@ SHA_256, RSA_IDENTIFIER = bytes.fromhex("300d06096086480165030402010500"), bytes
 def package(folder):
     """Returns the package, from a folder of its own."""
     home = Path(folder, "cms_canon")
-    shutil.copytree(TOP / "python" / "cms_canon", home)
+    shutil.copytree(TOP / "bindings" / "python" / "cms_canon", home)
     shutil.copy(TOP / "dist" / "x86_64-linux" / "libcms_canon.so", home)
     sys.path.insert(0, folder)
     return importlib.import_module("cms_canon")

@@ -85,7 +85,7 @@ def measure_files(home, count):
 def main(words):
     with tempfile.TemporaryDirectory(prefix="containers-") as folder:
         home = Path(folder)
-        shutil.copytree(TOP / "python" / "cms_canon", home / "cms_canon")
+        shutil.copytree(TOP / "bindings" / "python" / "cms_canon", home / "cms_canon")
         shutil.copy(RELEASE / "libcms_canon.so", home / "cms_canon")
         from archive_containers import Maker, signed_pdf
 

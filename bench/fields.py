@@ -65,7 +65,7 @@ def messages():
 
 def java(folder):
     """Returns the words that measure in Java."""
-    sources = [*(TOP / "java" / "src").glob("**/*.java"), TOP / "bench" / "Fields.java"]
+    sources = [*(TOP / "bindings" / "java" / "src").glob("**/*.java"), TOP / "bench" / "Fields.java"]
     subprocess.run(["javac", "-d", f"{folder}/java", "-cp", JNA, *sources], check=True)
     return ["java", f"-Djna.library.path={LIBRARY}", "-cp", f"{folder}/java:{JNA}", "Fields"]
 
@@ -74,7 +74,7 @@ def rust(folder):
     """Returns the words that measure in Rust."""
     environment = {**os.environ, "CARGO_TARGET_DIR": f"{folder}/target", "CMS_CANON_LIB_DIR": str(LIBRARY)}
     words = ["cargo", "build", "--quiet", "--offline", "--release", "--example", "seconds"]
-    subprocess.run(words, check=True, env=environment, cwd=TOP / "rust" / "cms-canon")
+    subprocess.run(words, check=True, env=environment, cwd=TOP / "bindings" / "rust")
     return [f"{folder}/target/release/examples/seconds"]
 
 

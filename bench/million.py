@@ -94,7 +94,7 @@ def main(words):
     totals, failed, longest = [0, 0, 0], 0, 0.0
     with tempfile.TemporaryDirectory(prefix="million-") as folder:
         package = Path(folder, "cms_canon")
-        shutil.copytree(TOP / "python" / "cms_canon", package)
+        shutil.copytree(TOP / "bindings" / "python" / "cms_canon", package)
         shutil.copy(RELEASE / "libcms_canon.so", package)
         waiting = list(range(first, first + runs))
         started = []

@@ -54,7 +54,7 @@ def tell(caller, octets, times, one, all_at_once):
 def main():
     with tempfile.TemporaryDirectory(prefix="threads-") as folder:
         package = Path(folder, "python", "cms_canon")
-        shutil.copytree(TOP / "python" / "cms_canon", package)
+        shutil.copytree(TOP / "bindings" / "python" / "cms_canon", package)
         shutil.copy(RELEASE / "libcms_canon.so", package)
         sys.path.insert(0, str(package.parent))
         from cms_canon import convert
@@ -62,7 +62,7 @@ def main():
         has_java = shutil.which("javac") and JNA.exists()
         classes = f"{folder}/java:{JNA}"
         if has_java:
-            sources = [*(TOP / "java" / "src").glob("**/*.java"), TOP / "bench" / "Threads.java"]
+            sources = [*(TOP / "bindings" / "java" / "src").glob("**/*.java"), TOP / "bench" / "Threads.java"]
             subprocess.run(["javac", "-d", f"{folder}/java", "-cp", JNA, *sources], check=True)
         for certificates, times in SIZES:
             message = message_of(certificates)

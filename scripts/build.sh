@@ -1,5 +1,5 @@
 # shellcheck shell=sh
-# Proves and builds crates of this repository, for ./cms-canon and ./release, which set `top` and `say` what happens. Each crate is proved in a
+# Proves and builds crates of this repository, for ./cms-canon and scripts/release, which set `top` and `say` what happens. Each crate is proved in a
 # tree of its own, of hard links, since `rt` keeps others out of the crates below, too. A second call waits for the build of the first.
 
 log=$top/out/build.log

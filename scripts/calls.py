@@ -1,4 +1,4 @@
-"""What repeats the calls of c/cms_canon.h: as Python, Java and Rust declare them, as Debian names them, and as docs/USING.md lists them. A call that
+"""What repeats the calls of bindings/c/cms_canon.h: as Python, Java and Rust declare them, as Debian names them, and as docs/USING.md lists them. A call that
 is deprecated there is not declared for them, and not listed."""
 
 import re
@@ -8,10 +8,10 @@ from pathlib import Path
 from typing import Dict, Iterator, List, NamedTuple, Tuple
 
 TOP = Path(__file__).resolve().parent.parent
-HEADER = "c/cms_canon.h"
-PYTHON = "python/cms_canon/_prototypes.py"
-JAVA = "java/src/cmscanon/Library.java"
-RUST = "rust/cms-canon/src/ffi.rs"
+HEADER = "bindings/c/cms_canon.h"
+PYTHON = "bindings/python/cms_canon/_prototypes.py"
+JAVA = "bindings/java/src/cmscanon/Library.java"
+RUST = "bindings/rust/src/ffi.rs"
 SYMBOLS = "packaging/debian/libcms-canon0.symbols"
 USING = "docs/USING.md"
 VERSION = "crates/cms_cli/src/task.rt"

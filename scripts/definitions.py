@@ -59,7 +59,7 @@ below; docs/TRUST.md says on which definitions the exact clause `refines` rests.
 - What a reader has left, and what a writer took, is `Some` octets if the type says which, as readers and writers over memory do. It is `None` if the
   type does not say; `Consumes` and `Appends` of std then claim nothing.
 - A **row** says where in a message the octets of one field lie. `entries_of` lists the fields of a message without its octets, and `Show` ties rows
-  to them. The kind of a field is a constant of `cms_rows/src/kinds.rt`, which `c/cms_canon.h` has with its ASN.1. The fields of a field come right after
+  to them. The kind of a field is a constant of `cms_rows/src/kinds.rt`, which `bindings/c/cms_canon.h` has with its ASN.1. The fields of a field come right after
   it, with a level that is one more.
 - `tail` says whether octets may follow a message (`Leave`) or not (`Refuse`), and `with_rest` whether what follows it is read too: as detached content,
   or as data that were time-stamped. An **answer** of a command is a status and a text.

@@ -1,4 +1,4 @@
-"""What repeats tables of other files: the kinds of fields of c/cms_canon.h, and the names that object identifiers have in listings."""
+"""What repeats tables of other files: the kinds of fields of bindings/c/cms_canon.h, and the names that object identifiers have in listings."""
 
 import re
 import sys
@@ -6,7 +6,7 @@ from pathlib import Path
 from typing import Dict, Iterator, List, NamedTuple
 
 TOP = Path(__file__).resolve().parent.parent
-HEADER = "c/cms_canon.h"
+HEADER = "bindings/c/cms_canon.h"
 NAMES = "crates/cms_scalars/src/names.rt"
 OBJECT_IDENTIFIERS = "crates/cms_scalars/src/object_identifiers.rt"
 
@@ -89,10 +89,10 @@ def rust_kinds() -> Iterator[str]:
 
 # Each file that is written, and what gives its lines. An empty line comes after the first.
 FILES = {
-    "python/cms_canon/_kinds.py": python_kinds,
-    "python/cms_canon/_names.py": python_names,
-    "java/src/cmscanon/Kind.java": java_kinds,
-    "rust/cms-canon/src/kinds.rs": rust_kinds,
+    "bindings/python/cms_canon/_kinds.py": python_kinds,
+    "bindings/python/cms_canon/_names.py": python_names,
+    "bindings/java/src/cmscanon/Kind.java": java_kinds,
+    "bindings/rust/src/kinds.rs": rust_kinds,
 }
 
 

@@ -42,6 +42,6 @@ folders_of() {
 sum_of_sources() (
     CDPATH='' cd -- "$top" || exit 1
     # shellcheck disable=SC2046 # one word a folder
-    { printf '%s\n' crates.txt c/cms_canon.h; find $(folders_of "$@") -type f; } \
+    { printf '%s\n' crates.txt bindings/c/cms_canon.h; find $(folders_of "$@") -type f; } \
         | LC_ALL=C sort | tr '\n' '\0' | xargs -0 sha256sum | sha256sum | cut -d ' ' -f 1
 )

@@ -1,4 +1,4 @@
-"""What repeats the tables of refusals and findings in texts/: the texts of the program and its help, the manual, the documents and the packages."""
+"""What repeats the tables of refusals and findings in docs/texts/: the texts of the program and its help, the manual, the documents and the packages."""
 
 import re
 import textwrap
@@ -7,8 +7,8 @@ from pathlib import Path
 from typing import Callable, Dict, Iterable, Iterator, List, NamedTuple, Sequence, Tuple
 
 TOP = Path(__file__).resolve().parent.parent
-REFUSALS = "texts/refusals.toml"
-FINDINGS = "texts/findings.toml"
+REFUSALS = "docs/texts/refusals.toml"
+FINDINGS = "docs/texts/findings.toml"
 MAKER = "Only the maker of the message can fix it."
 WIDTH = 79  # columns of help
 Row = Dict[str, object]
@@ -185,7 +185,7 @@ def test_of_findings() -> Iterator[str]:
 
 
 def python_texts() -> Iterator[str]:
-    yield '"""The texts of findings and refusals, from texts/. scripts/generate writes this file."""'
+    yield '"""The texts of findings and refusals, from docs/texts/. scripts/generate writes this file."""'
     yield ""
     yield "FINDINGS = ("
     yield from (f'    "{it.name}",' for it in RULES)
@@ -211,7 +211,7 @@ def json_of(text: object) -> str:
 def java_texts() -> Iterator[str]:
     yield "package cmscanon;"
     yield ""
-    yield "/** The texts of findings, from `texts/`. `scripts/generate` writes this file. */"
+    yield "/** The texts of findings, from `docs/texts/`. `scripts/generate` writes this file. */"
     yield "final class Texts {"
     yield "    private Texts() {}"
     yield ""
@@ -222,7 +222,7 @@ def java_texts() -> Iterator[str]:
 
 
 def rust_texts() -> Iterator[str]:
-    yield "//! The texts of findings, from `texts/`. `scripts/generate` writes this file."
+    yield "//! The texts of findings, from `docs/texts/`. `scripts/generate` writes this file."
     yield ""
     yield f"pub(crate) const FINDINGS: [&str; {len(RULES)}] = ["
     yield from (f'    "{it.name}",' for it in RULES)
@@ -230,9 +230,9 @@ def rust_texts() -> Iterator[str]:
 
 
 WHOLE: Dict[str, Callable[[], Iterable[str]]] = {
-    "python/cms_canon/_texts.py": python_texts,
-    "java/src/cmscanon/Texts.java": java_texts,
-    "rust/cms-canon/src/texts.rs": rust_texts,
+    "bindings/python/cms_canon/_texts.py": python_texts,
+    "bindings/java/src/cmscanon/Texts.java": java_texts,
+    "bindings/rust/src/texts.rs": rust_texts,
 }
 
 
@@ -249,11 +249,11 @@ class Region(NamedTuple):
 
 
 def in_document(name: str, what: str, lines: Callable[[], Iterable[str]]) -> Region:
-    return Region(name, f"<!-- {what}: scripts/generate writes this from texts/ -->", f"<!-- the end of {what} -->", lambda: ["", *lines(), ""])
+    return Region(name, f"<!-- {what}: scripts/generate writes this from docs/texts/ -->", f"<!-- the end of {what} -->", lambda: ["", *lines(), ""])
 
 
 def in_page(what: str, lines: Callable[[], Iterable[str]]) -> Region:
-    return Region("man/cms-canon.1", f'.\\" {what}: scripts/generate writes this from texts/', f'.\\" the end of {what}', lines)
+    return Region("docs/man/cms-canon.1", f'.\\" {what}: scripts/generate writes this from docs/texts/', f'.\\" the end of {what}', lines)
 
 
 HELP = "crates/cms_cli/src/texts.rt"
@@ -285,8 +285,8 @@ def filled(text: str, region: Region) -> str:
 # ---- how far the numbers go
 
 NUMBERED = (
-    *("c/cms_canon.h", "crates/cms_c/src/outcome.rt", "java/src/cmscanon/CmsCanon.java", "python/README.md", "python/cms_canon/__init__.py"),
-    *("python/cms_canon/_calls.py", "rust/cms-canon/src/check.rs", "rust/cms-canon/src/error.rs", "man/cms-canon.1", "docs/USING.md"),
+    *("bindings/c/cms_canon.h", "crates/cms_c/src/outcome.rt", "bindings/java/src/cmscanon/CmsCanon.java", "bindings/python/README.md", "bindings/python/cms_canon/__init__.py"),
+    *("bindings/python/cms_canon/_calls.py", "bindings/rust/src/check.rs", "bindings/rust/src/error.rs", "docs/man/cms-canon.1", "docs/USING.md"),
     HELP,
 )
 

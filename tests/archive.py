@@ -614,7 +614,7 @@ def judged_in_a_copy(packages, judge):
         return tally.end(may_skip_all=True)
     with tempfile.TemporaryDirectory(prefix="archive-") as folder:
         home = Path(folder)
-        shutil.copytree(TOP / "python" / "cms_canon", home / "cms_canon")
+        shutil.copytree(TOP / "bindings" / "python" / "cms_canon", home / "cms_canon")
         shutil.copy(RELEASE / "libcms_canon.so", home / "cms_canon")
         judge(home)
     return tally.end()

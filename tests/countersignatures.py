@@ -137,7 +137,7 @@ def is_right(tools, key, signature, covered):
 def package(folder):
     """Returns the Python package with the released library, from a folder of its own."""
     home = folder / "python" / "cms_canon"
-    shutil.copytree(TOP / "python" / "cms_canon", home)
+    shutil.copytree(TOP / "bindings" / "python" / "cms_canon", home)
     shutil.copy(RELEASE / "libcms_canon.so", home)
     sys.path.insert(0, str(home.parent))
     return importlib.import_module("cms_canon")

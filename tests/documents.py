@@ -72,7 +72,7 @@ def check_links(tally):
 
 
 def check_copies(tally):
-    copy = Path("rust") / "cms-canon" / "examples" / "message.ber"
+    copy = Path("bindings") / "rust" / "examples" / "message.ber"
     is_same = (TOP / copy).read_bytes() == (TOP / "examples" / "message.ber").read_bytes()
     tally.count(str(copy), "" if is_same else "it is not examples/message.ber")
 

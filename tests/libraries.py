@@ -4,11 +4,11 @@
     python3 tests/libraries.py
 
 Each caller is built against dist/ and answers one request a line, made from the vectors, and from messages made at random whose signers carry
-countersignatures: tests/c/answer.c by the header and the static library, python/tests/answer.py by the package that pip installs, without a
-network, into a folder of its own, and java/test/Answer.java by JNA. Then come the checks that each caller has of its own: of C,
+countersignatures: tests/c/answer.c by the header and the static library, bindings/python/tests/answer.py by the package that pip installs, without a
+network, into a folder of its own, and bindings/java/test/Answer.java by JNA. Then come the checks that each caller has of its own: of C,
 tests/c/calls.c, also under valgrind and the address sanitizer, all requests and some about deep messages on a stack as small as the header
-allows, and the names in the libraries; of Python, python/tests/test_calls.py, and the sample of python/README.md, if the package
-`cryptography` is installed; of Java, Calls, Messages, Streams, CallCounts and Growths in java/test/cmscanon: Streams with
+allows, and the names in the libraries; of Python, bindings/python/tests/test_calls.py, and the sample of bindings/python/README.md, if the package
+`cryptography` is installed; of Java, Calls, Messages, Streams, CallCounts and Growths in bindings/java/test/cmscanon: Streams with
 little memory, and the last two with libraries in front that count calls and refuse memory.
 """
 
@@ -159,7 +159,7 @@ def signers_below(signers, path):
 
 
 def job(signer, certificates):
-    """Returns what a verifier is asked about a signer, as python/tests/answer.py prints it."""
+    """Returns what a verifier is asked about a signer, as bindings/python/tests/answer.py prints it."""
     number = "-" if signer["serial_number"] is None else str(signer["serial_number"])
     algorithms = [signer[it] for it in ("signature_algorithm", "digest_algorithm")]
     named = [word for it in algorithms for word in (it["oid"], word_of(it["parameters"]))]
@@ -312,7 +312,7 @@ def refusing_growth(number):
 
 def try_small_stack(tally, asked, answer):
     """Asks on a stack as small as the header says suffices: what comes is the same as on a large one."""
-    stack = re.search(r"^#define CMS_CANON_STACK (\d+)$", (TOP / "c" / "cms_canon.h").read_text(), re.M)[1]
+    stack = re.search(r"^#define CMS_CANON_STACK (\d+)$", (TOP / "bindings" / "c" / "cms_canon.h").read_text(), re.M)[1]
     deep = "".join(f"{it}\n" for it in requests_of_deep_messages())
     wanted = run([answer], deep).splitlines()
     for number, reason in ((12, "SegmentsTooDeep"), (14, "OpaqueTooDeep"), (19, "CountersignTooDeep")):
@@ -352,8 +352,8 @@ def try_python(tally, asked, folder):
         run([sys.executable, "-m", "venv", home])
     except Failed as why:
         return tally.skip("Python", f"a folder of its own for packages cannot be made: {why}")
-    run([home / "bin" / "pip", "install", "--no-index", "--disable-pip-version-check", TOP / "python"])
-    python, tests = home / "bin" / "python", TOP / "python" / "tests"
+    run([home / "bin" / "pip", "install", "--no-index", "--disable-pip-version-check", TOP / "bindings" / "python"])
+    python, tests = home / "bin" / "python", TOP / "bindings" / "python" / "tests"
     asked = asked_of(asked, "part", "read", "digests")
     compare(tally, "Python", asked, [python, tests / "answer.py"], cwd=folder)
     said, wanted = (run(words) for words in ([python, "-c", SAY_VERSION], [RELEASE / "cms-canon", "--version"]))
@@ -383,7 +383,7 @@ def try_java(tally, asked, folder):
     missing = [it for it in ("java", "javac") if not shutil.which(it)] + ([] if JNA.exists() else [str(JNA)])
     if missing:
         return tally.skip("Java", f"{', '.join(missing)} not installed")
-    sources = [*(TOP / "java").glob("**/*.java")]
+    sources = [*(TOP / "bindings" / "java").glob("**/*.java")]
     asked = asked_of(asked, "part", "pieces", "digests")
     for name, message, detached, lines in cases():  # as objects
         answer = f"3 {lines[0]}" if lines[0].startswith("refused") else f"0 {'; '.join(lines)}"
@@ -402,7 +402,7 @@ def try_java(tally, asked, folder):
         real = front / "libcms_canon.so.0"
         real.symlink_to(RELEASE / "libcms_canon.so")
         linked = ["-Wl,--no-as-needed", real, "-Wl,-rpath,$ORIGIN"]
-        run(["gcc", "-shared", "-fPIC", *WARNINGS, TOP / "java" / "test" / "counting.c", *linked, "-o", front / "libcms_canon.so"])
+        run(["gcc", "-shared", "-fPIC", *WARNINGS, TOP / "bindings" / "java" / "test" / "counting.c", *linked, "-o", front / "libcms_canon.so"])
         add_counts(tally, "Java CallCounts", run([*java_words(folder, front), "cmscanon.CallCounts"]))
         add_counts(tally, "Java Growths", run([*java_words(folder, RELEASE), "cmscanon.Growths"], env=refusing_growth(1)))
 

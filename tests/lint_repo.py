@@ -96,8 +96,8 @@ def complaints_of_identifiers():
 
 
 # The crates whose public functions are for users, and those that call them: tests, and programs that the vectors drive.
-LIBRARIES = [f"cms_{it}" for it in ("tlv", "fields", "setof", "scalars", "message", "tsp", "rows", "check", "listing", "command", "canon")]
-CALLERS = [f"cms_{it}" for it in ("tlv_tests", "record_tests", "tests", "example", "test_driver", "canon_program")]
+LIBRARIES = [f"cms_{it}" for it in ("tlv", "fields", "setof", "scalars", "message", "tsp", "rows", "check", "listing", "canon", "cli")]
+CALLERS = [f"cms_{it}" for it in ("tests", "example", "test_driver", "canon_program")]
 
 
 def code_of(file):
@@ -117,11 +117,14 @@ def public_functions(crate):
 
 
 def calls_of(crate):
-    """Returns the names of the functions and methods that a crate calls, but for its own functions."""
-    code = "\n".join(line for file in (TOP / "crates" / crate / "src").glob("*.rt") for line in code_of(file))
-    own = set(re.findall(r"\bfn (\w+)", code))
-    calls = re.findall(r"(?<!\bfn )(\.|::|\b)(\w+)(?:::<[^(]*>)?\(", code)
-    return {name for before, name in calls if before or name not in own}
+    """Returns the names of the functions and methods that a crate calls, except those of the file that calls them."""
+    names = set()
+    for file in (TOP / "crates" / crate / "src").rglob("*.rt"):
+        code = "\n".join(code_of(file))
+        own = set(re.findall(r"\bfn (\w+)", code))
+        calls = re.findall(r"(?<!\bfn )(\.|::|\b)(\w+)(?:::<[^(]*>)?\(", code)
+        names |= {name for before, name in calls if before or name not in own}
+    return names
 
 
 def complaints_of_untested_functions():
@@ -162,7 +165,7 @@ def complaints_of_sketches():
     itself is part of an example of the crate for Rust."""
     files = [*sorted(TOP.glob("crates/*/src/sketches.rt")), TOP / "crates" / "cms_example" / "src" / "lib.rt"]
     known = {line for file in files for line in lines_of_sketch(file.read_text())}
-    in_rust = {line for file in TOP.glob("rust/*/examples/*.rs") for line in lines_of_sketch(file.read_text())}
+    in_rust = {line for file in TOP.glob("bindings/rust/examples/*.rs") for line in lines_of_sketch(file.read_text())}
     texts = {name: (TOP / name).read_text() for name in ("docs/TRUST.md", "examples/README.md")}
     for file in sorted(TOP.glob("crates/*/src/lib.rt")):
         lines = file.read_text().splitlines()
@@ -200,8 +203,8 @@ def differences(name, letter, found, known):
         yield f"{name}: {letter}{it} is {found.get(it)!r}, and in the program {known.get(it)!r}"
 
 
-JAVA, HEADER = "java/src/cmscanon/CmsCanon.java", "c/cms_canon.h"
-PYTHON_REASONS, RUST_ERRORS = "python/cms_canon/_calls.py", "rust/cms-canon/src/error.rs"
+JAVA, HEADER = "bindings/java/src/cmscanon/CmsCanon.java", "bindings/c/cms_canon.h"
+PYTHON_REASONS, RUST_ERRORS = "bindings/python/cms_canon/_calls.py", "bindings/rust/src/error.rs"
 FORMATS = "docs/FORMATS.md"
 
 
@@ -224,7 +227,7 @@ def complaints_of_names():
     source = (TOP / "crates" / "cms_tlv" / "src" / "fault.rt").read_text()
     names = dict(re.findall(r'Reason::(\w+) => "(\w+)",', source))
     known = {int(number): names[reason] for reason, number in re.findall(r"^    (\w+) = (\d+),$", source, re.M)}
-    yield from differences("texts/refusals.toml", "E", table_in("texts/refusals.toml", r'^number = (\d+)\nname = "(.*)"'), known)
+    yield from differences("docs/texts/refusals.toml", "E", table_in("docs/texts/refusals.toml", r'^number = (\d+)\nname = "(.*)"'), known)
     some = table_in("docs/REFUSALS.md", r"\bE(\d+) ([A-Z]\w+)")
     yield from differences("docs/REFUSALS.md", "E", some, {it: known.get(it) for it in some})
 
@@ -245,11 +248,11 @@ def complaints_of_findings():
 
     defined, coded = numbers_in(r"\((\d+), ", crate / "specs" / "Findings.antt"), numbers_in(r"\((\d+), ", *crate.glob("src/*.rt"))
     comments = [line for file in crate.glob("specs/*.antt") for line in re.findall(r"^---.*\n", file.read_text(), re.M)]
-    said, vectors = numbers_in(r"^number = (\d+)$", TOP / "texts" / "findings.toml"), [*TOP.glob("tests/vectors/*.json")]
+    said, vectors = numbers_in(r"^number = (\d+)$", TOP / "docs" / "texts" / "findings.toml"), [*TOP.glob("tests/vectors/*.json")]
     listed = {found[0] for file in vectors for it in json.loads(file.read_text())["vectors"] for found in it.get("findings", [])}
     named, later = r"\bF(\d+)\b", {it for it in defined if it > 18}
     for those, why in (
-        (defined - said, "is defined, and texts/findings.toml has no text of it"), (said - defined, "has a text, and is not defined"),
+        (defined - said, "is defined, and docs/texts/findings.toml has no text of it"), (said - defined, "has a text, and is not defined"),
         (defined - coded, "has no row in crates/cms_check/src"), (defined - listed - numbers_in(named, *vectors), "is given by no vector"),
         (defined - numbers_in(named, *comments), "is in no comment of three dashes in crates/cms_check/specs"),
         (later - numbers_in(named, promises_in("cms_check")), "is not in a promise of an edit of cms_check"),
@@ -324,7 +327,7 @@ def complaints_of_versions():
     crate = r"^version = \"(\d+\.\S+)\"$"
     for name, pattern in (
         ("CHANGELOG.md", r"^## (\d\S*) - \d{4}-\d\d-\d\d$"), ("dist/x86_64-linux/MANIFEST", r"^version: (.*)$"),
-        ("rust/cms-canon/Cargo.toml", crate), ("rust/cms-canon/Cargo.lock", crate),
+        ("bindings/rust/Cargo.toml", crate), ("bindings/rust/Cargo.lock", crate),
     ):
         said = re.search(pattern, (TOP / name).read_text(), re.M)[1]
         if said != version:

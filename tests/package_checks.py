@@ -33,8 +33,8 @@ def source_of(name):
 
 
 def expected_modules():
-    files = [it for it in (TOP / "python" / "cms_canon").rglob("*") if it.is_file() and it.parent.name != "__pycache__"]
-    return {it.relative_to(TOP / "python").as_posix(): it.read_bytes() for it in files}
+    files = [it for it in (TOP / "bindings" / "python" / "cms_canon").rglob("*") if it.is_file() and it.parent.name != "__pycache__"]
+    return {it.relative_to(TOP / "bindings" / "python").as_posix(): it.read_bytes() for it in files}
 
 
 def check_members(tally, found):
@@ -118,7 +118,7 @@ def check_imports(tally, found):
     metadata = next(it.octets.decode() for path, it in found.items() if path.endswith(".whl!" + about("METADATA")))
     extra = {*re.findall(r'^Requires-Dist: (\S+) .*; extra == "archive"$', metadata, re.M)}
     names = set()
-    for file in (TOP / "python" / "cms_canon" / "archive").rglob("*.py"):
+    for file in (TOP / "bindings" / "python" / "cms_canon" / "archive").rglob("*.py"):
         for node in ast.walk(ast.parse(file.read_text(encoding="utf-8"))):
             if isinstance(node, ast.Import):
                 names |= {it.name.partition(".")[0] for it in node.names}
@@ -168,7 +168,7 @@ def check_wheel(tally, found):
 
 def check_jar(tally, found):
     """Checks what is in the jars, whose classes have to be those of Java 17."""
-    sources = {it.relative_to(TOP / "java" / "src").as_posix(): it.read_bytes() for it in (TOP / "java" / "src").rglob("*.java")}
+    sources = {it.relative_to(TOP / "bindings" / "java" / "src").as_posix(): it.read_bytes() for it in (TOP / "bindings" / "java" / "src").rglob("*.java")}
     shared = {f"META-INF/{it}" for it in ("MANIFEST.MF", "LICENSE-APACHE", "LICENSE-MIT", "THIRD-PARTIES")}
     classes, packed, pages = (
         {path: it.octets for path, it in inside(found, f"cms-canon-{VERSION}{kind}.jar").items()} for kind in ("", "-sources", "-javadoc")
@@ -230,7 +230,7 @@ def check_crate(tally, folder):
         names = {it.name.partition("/")[2] for it in archive.getmembers()}
         subprocess.run(["tar", "-xzf", archive.name, "-C", folder], check=True)
     wanted = {"LICENSE-APACHE", "LICENSE-MIT", "THIRD-PARTIES", "README.md", "build.rs", "lib/libcms_canon.a", "examples/message.ber",
-              *(it.relative_to(TOP / "rust/cms-canon").as_posix() for it in (TOP / "rust/cms-canon").glob("[se]*/*.rs"))}
+              *(it.relative_to(TOP / "bindings/rust").as_posix() for it in (TOP / "bindings/rust").glob("[se]*/*.rs"))}
     tally.count("files of the crate", differing([], sorted(wanted - names)))
     tally.count("no commit in the crate", "" if ".cargo_vcs_info.json" not in names else "it names one")
     how = {"cwd": folder / f"cms-canon-{VERSION}", "env": environment}

@@ -71,7 +71,7 @@ def check_damage(tally, copy, to):
         tally.count(name, why_not_refused(package(copy, to), 70, said, to, before))
     shutil.copy(TOP / "crates.txt", copy)
     (binaries / "MANIFEST").write_text(manifest, encoding="ascii")
-    cargo = copy / "rust" / "cms-canon" / "Cargo.toml"
+    cargo = copy / "bindings" / "rust" / "Cargo.toml"
     text = cargo.read_text(encoding="utf-8")
     cargo.write_text(text.replace(f'version = "{VERSION}"', 'version = "9.9.9"'), encoding="utf-8")
     tally.count("a crate of another version", why_not_refused(package(copy, to), 70, "another version than the release", to, before))
@@ -85,7 +85,7 @@ def check_tools(tally, copy, to, folder):
         tally.count(f"without {tool}", why_not_refused(done, 69, f"{tool} is missing: apt-get install", to, before))
     done = package(copy, to, env={**os.environ, "CMS_CANON_JNA": "/nowhere/jna.jar"})
     tally.count("without JNA", why_not_refused(done, 69, "/nowhere/jna.jar is missing", to, before))
-    warned = copy / "java" / "src" / "cmscanon" / "Octets.java"
+    warned = copy / "bindings" / "java" / "src" / "cmscanon" / "Octets.java"
     text = warned.read_text(encoding="utf-8")
     warned.write_text(text.replace("    /** {@return how many octets there are} */\n", ""), encoding="utf-8")
     tally.count("a method without a comment", why_not_refused(package(copy, to), 70, "javadoc failed", to, before))

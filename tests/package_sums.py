@@ -50,7 +50,7 @@ def check_bill(tally):
     tally.count("version in the bill of materials", differing((VERSION, "MIT OR Apache-2.0"), (own["versionInfo"], own["licenseDeclared"])))
     said = re.search(r"^kit: (.*)$", (BINARIES / "MANIFEST").read_text(encoding="ascii"), re.M)[1]
     kept = json.loads((TOP / "packaging" / "components.json").read_text(encoding="utf-8"))["kit"]
-    why = "" if kept == said else f"{kept}, and the binaries are by {said}: run ./release"
+    why = "" if kept == said else f"{kept}, and the binaries are by {said}: run scripts/release"
     tally.count("kit whose crates are in the bill of materials", why)
     tally.count("kit in the bill of materials", "" if kit["comment"].startswith(f"{said}:") else f"{kit['comment']!r}")
     known = crates_of_kit()

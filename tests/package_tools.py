@@ -17,9 +17,8 @@ from packages.crates import of_kit  # noqa: E402
 DIST = TOP / "dist"
 BINARIES = DIST / "x86_64-linux"
 PACKAGES = DIST / "packages"
-FIX = "run ./release --packages and commit dist/"
-PARTS = ("CHANGELOG.md", "LICENSE-APACHE", "LICENSE-MIT", "crates.txt", "c", "completions", "examples", "java", "man", "packaging", "python",
-         "rust", "scripts")  # what packages are made of, beside the binaries
+FIX = "run scripts/release --packages and commit dist/"
+PARTS = ("CHANGELOG.md", "LICENSE-APACHE", "LICENSE-MIT", "bindings", "crates.txt", "docs", "examples", "packaging", "scripts")  # what packages are made of, beside the binaries
 VERSION = re.search(r"^version: (.*)$", (BINARIES / "MANIFEST").read_text(encoding="ascii"), re.M)[1]
 CHANGELOG = (TOP / "CHANGELOG.md").read_text(encoding="utf-8")
 DATED = re.search(rf"^## {re.escape(VERSION)} - (.*)$", CHANGELOG, re.M)
@@ -51,7 +50,7 @@ def copy_of_repository(folder):
 
 
 def package(top, to, released=None, **how):
-    """Makes packages as ./release does; `how` is for `ended`."""
+    """Makes packages as scripts/release does; `how` is for `ended`."""
     return ended([sys.executable, top / "scripts" / "package", released or top / "dist" / "x86_64-linux", to], **how)
 
 

@@ -8,7 +8,7 @@
   file that is named there.
 - docs/FORMATS.md, docs/REFUSALS.md, the manual pages, as `man` shows them, and the help of the program: each command of their examples, beside the
   files that they are about.
-- python/README.md: the package is installed as it says, and its first sample is run.
+- bindings/python/README.md: the package is installed as it says, and its first sample is run.
 
 tests/packages.py runs those of docs/INSTALL.md. A command that is not run is in tests/data/printed.toml, with the reason, and so are commands in the
 text around the blocks. What needs a tool that is missing is skipped by its name. All is done in a folder that is removed afterwards.
@@ -382,40 +382,40 @@ def check_blocks_of(tally, name, folder, authority):
 
 
 def check_python(tally, folder, authority):
-    """Installs the package as python/README.md says, and runs the sample of the calls; tests/libraries.py runs that of the verifier and
+    """Installs the package as bindings/python/README.md says, and runs the sample of the calls; tests/libraries.py runs that of the verifier and
     that of the fields."""
     (folder / "home").mkdir(parents=True)
     clone_into(folder)
-    blocks = fenced((folder / "python" / "README.md").read_text(encoding="utf-8"))
+    blocks = fenced((folder / "bindings" / "python" / "README.md").read_text(encoding="utf-8"))
     calls, *others = [it for it in blocks if it.language == "python"]
-    tally.count("python/README.md: samples", "" if len(others) == 2 else f"{1 + len(others)} samples, of which three are run")
+    tally.count("bindings/python/README.md: samples", "" if len(others) == 2 else f"{1 + len(others)} samples, of which three are run")
     message = (folder / "examples" / "message.ber").read_bytes()
     (folder / "message.ber").write_bytes(message)
     (folder / "messages.ber").write_bytes(message + message)
     shell = Shell(folder, folder / "home")
     with shell.process:
-        not_run = run_blocks(tally, "python/README.md", shell, [it for it in blocks if it.language == "sh"])
+        not_run = run_blocks(tally, "bindings/python/README.md", shell, [it for it in blocks if it.language == "sh"])
         status, written, errors = shell.run(f"venv/bin/python - <<'END'\n{calls.body}END")
     lines = written.splitlines()
     is_so = (status, lines[:1], lines[-3:]) == (0, ["kind: signed-data"], ["F18 signer 0 verifier says unknown", "762", "762"])
-    tally.count("python/README.md: the sample of the calls", "" if is_so else f"status {status}: {written}{errors}")
+    tally.count("bindings/python/README.md: the sample of the calls", "" if is_so else f"status {status}: {written}{errors}")
     return not_run
 
 
 def check_manuals(tally, folder, authority):
     if not tally.has("man", "the manual pages"):
         return READ["not_run"]["network"]
-    page = TOP / "man" / "cms-canon.1"
+    page = TOP / "docs" / "man" / "cms-canon.1"
     of_many = [it for it in of_manual(page, "MANY MESSAGES") if shutil.which(it.body.split()[0])]  # the others show lines of the program
     tally.count("man cms-canon: commands on many messages", "" if len(of_many) == 2 else f"{len(of_many)}")
     not_run = check_recipes(tally, "man cms-canon", [*of_manual(page, "EXAMPLES"), *of_many], folder, authority)
-    for name in ("dist", "man", "packaging", "python"):
+    for name in ("dist", "bindings", "docs", "packaging"):
         shutil.copytree(TOP / name, folder / name)
     for name in ("CHANGELOG.md", "LICENSE-APACHE", "LICENSE-MIT"):
         shutil.copy(TOP / name, folder)
     shell = Shell(folder, folder / "home")
     with shell.process:
-        return not_run + run_blocks(tally, "man cms-canon-archive", shell, of_manual(TOP / "man" / "cms-canon-archive.1", "DESCRIPTION"))
+        return not_run + run_blocks(tally, "man cms-canon-archive", shell, of_manual(TOP / "docs" / "man" / "cms-canon-archive.1", "DESCRIPTION"))
 
 
 def main():

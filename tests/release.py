@@ -4,7 +4,7 @@
     python3 tests/release.py BUILT
 
 BUILT is a copy of this repository in which the crates were proved and built. What a release of it would be is written to
-out/candidate, from where ./release takes it.
+out/candidate, from where scripts/release takes it.
 
 - dist/ is made from these sources, and each of its files has the SHA-256 that its MANIFEST names.
 - If the kit, `strip` and `objcopy` are those that made dist/, each file is that of the candidate, octet for octet. Else a line says
@@ -28,8 +28,8 @@ from run_vectors import LIBRARY, RELEASE, SMALLEST, TOP, octets_of, read_vectors
 from tally import Tally
 
 CANDIDATE = TOP / "out" / "candidate"
-MEND = "run ./release and commit dist/"
-PARTS = ("cms-canon", "scripts", "c", "crates.txt", "crates", "dist")  # what ./cms-canon rests on
+MEND = "run scripts/release and commit dist/"
+PARTS = ("cms-canon", "scripts", "bindings", "crates.txt", "crates", "dist")  # what ./cms-canon rests on
 AT_ONCE = 1.0  # seconds
 ATTEMPTS = 10  # since a disk that is busy can take longer than that
 

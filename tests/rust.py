@@ -1,5 +1,5 @@
 #!/usr/bin/env python3
-"""Tests the crate rust/cms-canon with the released library, or with the one in the folder that CMS_CANON_LIB_DIR names.
+"""Tests the crate bindings/rust with the released library, or with the one in the folder that CMS_CANON_LIB_DIR names.
 
     python3 tests/rust.py
 
@@ -23,7 +23,7 @@ from libraries import SECONDS, asked_of, digests_word, requests, word_of
 from run_vectors import RELEASE, TOP, built_refusing
 from tally import Tally
 
-CRATE = TOP / "rust" / "cms-canon"
+CRATE = TOP / "bindings" / "rust"
 RESULT = re.compile(r"^test result: \w+\. (\d+) passed; (\d+) failed;", re.M)
 FAULT, END = "Error: OutOfMemory\n", "memory allocation of "  # of a call, and of what Rust itself does for the program
 GROWTHS = 100  # of which some are the program's before the call, and some those of its printing

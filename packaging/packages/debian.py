@@ -44,7 +44,7 @@ class Package:
 
 def command(release: Release) -> Iterable[Entry]:
     """Yields the command, its manual page and its completions."""
-    completions = TOP / "completions"
+    completions = TOP / "packaging" / "completions"
     yield File("usr/bin/cms-canon", release.octets_of("cms-canon"), 0o755)
     yield File("usr/share/man/man1/cms-canon.1.gz", gzipped(manual(release, "cms-canon.1")))
     yield File("usr/share/bash-completion/completions/cms-canon", (completions / "cms-canon.bash").read_bytes())
@@ -67,11 +67,11 @@ def development(release: Release) -> Iterable[Entry]:
 
 def pkg_config(release: Release) -> bytes:
     """Returns the file for pkg-config, with the folder that Debian has for the libraries of this architecture."""
-    text = (TOP / "c" / "cms_canon.pc.in").read_text(encoding="ascii")
+    text = (TOP / "bindings" / "c" / "cms_canon.pc.in").read_text(encoding="ascii")
     filled_in = text.replace("@PREFIX@", "/usr").replace("@VERSION@", release.version)
     placed = filled_in.replace("libdir=${prefix}/lib\n", "libdir=${prefix}/lib/x86_64-linux-gnu\n")
     if placed == filled_in:
-        raise Refused("c/cms_canon.pc.in has no line `libdir=${prefix}/lib`")
+        raise Refused("bindings/c/cms_canon.pc.in has no line `libdir=${prefix}/lib`")
     return placed.encode()
 
 

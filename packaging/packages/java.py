@@ -14,7 +14,7 @@ from .files import File, files_below, zipped
 from .project import LICENSE_FILES, PROJECT, TEMPLATES, TOP, Release
 from .tools import JNA, run
 
-SOURCES = TOP / "java" / "src"
+SOURCES = TOP / "bindings" / "java" / "src"
 LIBRARY = "linux-x86-64/libcms_canon.so"  # where JNA looks in a jar
 GROUP, ARTIFACT = "cmscanon", "cms-canon"
 

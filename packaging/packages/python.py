@@ -73,13 +73,13 @@ Tag: {TAG}
 def modules(release: Release) -> List[File]:
     """Returns the files of the package `cms_canon`, without the library."""
     version = File("cms_canon/_version.py", f'__version__ = "{release.version}"\n'.encode())
-    return sorted([*files_below(TOP / "python" / "cms_canon", "cms_canon/"), version])
+    return sorted([*files_below(TOP / "bindings" / "python" / "cms_canon", "cms_canon/"), version])
 
 
 def about(release: Release) -> List[File]:
     """Returns the files that say what the package is, and which commands it has."""
     folder = f"cms_canon-{release.version}.dist-info"
-    description = (TOP / "python" / "README.md").read_text(encoding="utf-8")
+    description = (TOP / "bindings" / "python" / "README.md").read_text(encoding="utf-8")
     metadata = METADATA.format(version=release.version, license=LICENSE, description=description, **PROJECT)
     return [
         File(f"{folder}/METADATA", metadata.encode()),
@@ -89,7 +89,7 @@ def about(release: Release) -> List[File]:
 
 def manual(release: Release, name: str) -> bytes:
     """Returns a manual page with the version in it."""
-    return (TOP / "man" / name).read_text(encoding="utf-8").replace("@VERSION@", release.version).encode()
+    return (TOP / "docs" / "man" / name).read_text(encoding="utf-8").replace("@VERSION@", release.version).encode()
 
 
 def record(files: Iterable[File], name: str) -> File:

@@ -14,7 +14,7 @@ from .files import File, tar_gz
 from .project import LICENSE_FILES, TOP, Refused, Release
 from .tools import run
 
-CRATE = TOP / "rust" / "cms-canon"
+CRATE = TOP / "bindings" / "rust"
 OF_MACHINE = ".cargo_vcs_info.json"  # names a commit if the folder lies in a repository
 
 
@@ -44,5 +44,5 @@ def crate(release: Release, work: Path) -> Dict[str, bytes]:
     name = f"cms-canon-{release.version}.crate"
     made = target / "package" / name
     if not made.is_file():
-        raise Refused(f"rust/cms-canon/Cargo.toml has another version than the release, {release.version}")
+        raise Refused(f"bindings/rust/Cargo.toml has another version than the release, {release.version}")
     return {name: tar_gz(members(made.read_bytes()), release.epoch)}

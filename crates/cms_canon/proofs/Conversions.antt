@@ -45,7 +45,6 @@ conversion m octets = record { message = m.octets; der = octets }
 pub is_conversion : ReceivedAreKept → (r : Reading) (limit : ℕ) (m : Whole) (octets : List ℕ) → IsRead r limit tails.Leave m
     → IsDerOf m.value octets → IsFaithful limit (conversion m octets)
 is_conversion law r limit m octets k o =
-    let short = k.writable.1 octets o in
     record {
       is_written = record {
         read = m.value;
@@ -54,9 +53,8 @@ is_conversion law r limit m octets k o =
         written = o.value;
         der_spells = o.spells;
         is_same = o.same;
-        der_short = short;
+        der_short = k.writable.1 octets o;
       };
-      short = short;
       received = law m.octets octets m.value o.value k.message.0 o.spells o.same;
     }
 

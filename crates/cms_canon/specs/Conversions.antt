@@ -21,7 +21,6 @@ pub record IsCanonicalised (r : Reading) (w : Writing) (limit : ℕ) (tail : Tai
   pub is_read : IsRead r limit tail message
   pub octets : List ℕ
   pub is_written : IsAcceptedAs whole_message same_message limit message.octets octets
-  pub short : length octets ≤ limit
   pub written_all : WritesAll w octets
   pub received : KeepsReceived message.octets octets
   pub read : d.read ≡ length message.octets

@@ -23,11 +23,10 @@ pub record Conversion : Type 0 where
   pub message : List ℕ
   pub der : List ℕ
 
---- `IsFaithful limit c`: `c.der` is what is written for `c.message` (`IsAcceptedAs`) and has at
----   most `limit` octets, and `KeepsReceived` holds of both
+--- `IsFaithful limit c`: `c.der` is what is written for `c.message` (`IsAcceptedAs`), and
+---   `KeepsReceived` holds of both
 pub record IsFaithful (limit : ℕ) (c : Conversion) : Type 0 where
   pub is_written : IsAcceptedAs whole_message same_message limit c.message c.der
-  pub short : length c.der ≤ limit
   pub received : KeepsReceived c.message c.der
 
 --- `messages_of cs`, `ders_of cs`: the messages, and what is written for them, one after another

@@ -5,7 +5,9 @@ use crate::samples::{
     LIMIT, NESTED_CONTENT, SEGMENTED_CONTENT, SIGNED, SMALLEST, SMALLEST_REQUEST, WHOLE_CONTENT,
     both, message_of,
 };
-use cms_canon::{SameFault, View, check_message, listing, read_rest, same, same_messages};
+use cms_canon::{
+    SameFault, Tail, View, check_message, listing, read_rest, same, same_as, same_messages,
+};
 use cms_check::{Finding, Given, Job, Verdict, Verifier, check_request, check_response};
 use cms_tlv::{Fault, Reason, Slice};
 use std::alloc::Global;
@@ -88,6 +90,27 @@ fn readers_after_a_comparison(rt: HostRuntime) -> Result<(), Fail> {
         Err(SameFault::Second(truncated)),
         "a cut second",
     );
+    Ok(())
+}
+
+/// A message is compared with one that a reader has: the same in other forms, another, and one that is cut.
+#[test]
+fn comparisons_with_a_message(rt: HostRuntime) -> Result<(), Fail> {
+    let first = message_of(rt.alloc(), WHOLE_CONTENT)?;
+    let truncated = Fault::Refused {
+        reason: Reason::Truncated,
+        at: 2,
+    };
+    let cases = [
+        (SEGMENTED_CONTENT, Ok(true)),
+        (SMALLEST, Ok(false)),
+        ("3023", Err(SameFault::Second(truncated))),
+    ];
+    for (second, want) in cases {
+        let octets = hex::decode(rt.alloc(), second)?;
+        let (_, came) = same_as(rt.alloc(), &first, Slice::new(&octets), LIMIT, Tail::Refuse);
+        assert_same(&rt, came, want, second);
+    }
     Ok(())
 }
 

@@ -1,9 +1,9 @@
 //! What the signatures of signers cover.
 use crate::asserts::{assert_hex, assert_holds, assert_same};
 use crate::samples::{COVERED, LIMIT, SIGNED, SMALLEST_REQUEST, TWO_SIGNERS, message_of};
+use crate::streams::Reluctant;
 use cms_canon::{NoCover, write_cover};
 use cms_message::{CoverFault, SignedData};
-use crate::streams::Reluctant;
 use cms_tlv::{Fault, Reason, Watched};
 use std::alloc::Global;
 use std::io::ErrorKind;

@@ -3,12 +3,12 @@ use crate::asserts::{assert_holds, assert_same};
 use crate::digests_given::{NO_CONTENT, RESPONSE, TOKEN};
 use crate::failing::{FAILURES, Remaining, slow};
 use crate::samples::{LIMIT, MIXED, SIGNED, SMALLEST_REQUEST, TWO_SIGNERS, message_of};
+use crate::streams::Ended;
 use cms_canon::{
     Message, asked_of_content, asked_of_data, check_content_from, check_data_from, check_message,
     check_message_digests, digests_from, needs_content,
 };
 use cms_check::{Finding, HashAlg, NoVerifier, Report, digest};
-use crate::streams::Ended;
 use cms_tlv::{Fault, Input, MAX_LIMIT, Reason, Slice, Watched};
 use std::alloc::{AllocError, Global};
 use std::io::ErrorKind;

@@ -2,8 +2,8 @@
 use crate::asserts::{assert_holds, assert_same};
 use crate::failing::{Remaining, buffered, slow};
 use crate::samples::{ACCEPTED, LIMIT, SMALLEST, SMALLEST_REQUEST};
-use cms_canon::{Many, ManyFault, canonicalise_many};
 use crate::streams::{Ended, Full, LimitedWriter, Reluctant};
+use cms_canon::{Many, ManyFault, canonicalise_many};
 use cms_tlv::{Fault, Input, MAX_LIMIT, Reason, Slice, Watched};
 use std::alloc::Global;
 use std::io::ErrorKind;

@@ -1,8 +1,8 @@
 //! Records of whole messages, read after their header.
 use crate::asserts::assert_same;
 use crate::samples::{LIMIT, REQUEST, SEGMENTED_CONTENT};
-use cms_message::{ContentInfo, ContentInfoSpans, read_content_info};
 use crate::streams::Reluctant;
+use cms_message::{ContentInfo, ContentInfoSpans, read_content_info};
 use cms_tlv::{Bound, Fault, Input, Reason, SEQUENCE, Source, Watched};
 use cms_tsp::{
     TimeStampReq, TimeStampReqSpans, TimeStampResp, TimeStampRespSpans, read_request, read_response,

@@ -2,8 +2,8 @@
 use crate::asserts::assert_same;
 use crate::failing::{FAILURES, Remaining, buffered, slow};
 use crate::samples::LIMIT;
-use cms_canon::read_rest;
 use crate::streams::{Counting, Ended};
+use cms_canon::read_rest;
 use cms_tlv::{Fault, Input, MAX_LIMIT, Reason, Watched};
 use std::alloc::{AllocError, Global};
 use std::io::ErrorKind;

@@ -779,7 +779,7 @@ class Samples(unittest.TestCase):
         (sample,) = re.findall(r"^```python\n(message = .*?)^```$", (HERE.parent / "README.md").read_text(), re.M | re.S)
         printed = io.StringIO()
         with contextlib.redirect_stdout(printed):
-            exec(sample, {"cms_canon": cms_canon, "Path": lambda name: HERE.parent.parent / "examples" / name})
+            exec(sample, {"cms_canon": cms_canon, "Path": lambda name: HERE.parents[2] / "examples" / name})
         self.assertEqual(printed.getvalue().splitlines(), re.findall(r"  # (.*)$", sample, re.M))
 
 

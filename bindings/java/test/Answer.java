@@ -13,7 +13,7 @@ import java.util.stream.Collectors;
 import java.util.stream.Stream;
 
 /**
- * Answers requests by {@link CmsCanon}, as python/tests/answer.py does by the package: one request and one answer a line. Then four
+ * Answers requests by {@link CmsCanon}, as bindings/python/tests/answer.py does by the package: one request and one answer a line. Then four
  * threads make the same calls at once, and the last line says how many of their answers differ.
  */
 public final class Answer {

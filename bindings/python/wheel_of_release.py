@@ -1,5 +1,5 @@
-"""The hooks that pip calls (PEP 517) for `pip install ./python`: they make the wheel that `./release` also makes, of the Python files
-here and of the library of the release in ../dist, and need the standard library alone.
+"""The hooks that pip calls (PEP 517) for `pip install bindings/python`: they make the wheel that `scripts/release` also makes, of the Python files
+here and of the library of the release in dist/, and need the standard library alone.
 
 A hook of its own, and not setuptools: pip builds in a folder in which the system's setuptools cannot be imported, and fetches it from the
 network.
@@ -8,7 +8,7 @@ network.
 import sys
 from pathlib import Path
 
-sys.path.insert(0, str(Path(__file__).resolve().parent.parent / "packaging"))
+sys.path.insert(0, str(Path(__file__).resolve().parents[2] / "packaging"))
 
 from packages.project import TOP, Refused, release_in  # noqa: E402
 from packages.python import wheel  # noqa: E402

@@ -1,4 +1,4 @@
-"""The texts of findings and refusals, from texts/. scripts/generate writes this file."""
+"""The texts of findings and refusals, from docs/texts/. scripts/generate writes this file."""
 
 FINDINGS = (
     "version does not follow the version rule",

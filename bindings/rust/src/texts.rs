@@ -1,4 +1,4 @@
-//! The texts of findings, from `texts/`. `scripts/generate` writes this file.
+//! The texts of findings, from `docs/texts/`. `scripts/generate` writes this file.
 
 pub(crate) const FINDINGS: [&str; 19] = [
     "version does not follow the version rule",

@@ -1,4 +1,4 @@
-"""The kinds of fields of c/cms_canon.h, `enum cms_canon_kind`. scripts/generate writes this file."""
+"""The kinds of fields of bindings/c/cms_canon.h, `enum cms_canon_kind`. scripts/generate writes this file."""
 
 PARAMETERS = 0x01  # element: parameters of the AlgorithmIdentifier one level above
 ATTRIBUTE = 0x02  # contents: attrType. The attrValues are one level below

@@ -1,4 +1,4 @@
-"""The calls of c/cms_canon.h, with the types of their arguments there. scripts/generate writes this file."""
+"""The calls of bindings/c/cms_canon.h, with the types of their arguments there. scripts/generate writes this file."""
 
 PROTOTYPES = {
     "cms_canon_convert": (

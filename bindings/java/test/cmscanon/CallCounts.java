@@ -11,7 +11,7 @@ import java.io.IOException;
 import java.util.stream.Collectors;
 import java.util.stream.IntStream;
 
-/** Checks that a verifier is handed all signers by one reading, with java/test/counting.c in front of the library. */
+/** Checks that a verifier is handed all signers by one reading, with bindings/java/test/counting.c in front of the library. */
 public final class CallCounts {
     private static final Checks CHECKS = new Checks();
 

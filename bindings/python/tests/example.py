@@ -1,4 +1,4 @@
-"""Runs the sample of python/README.md on messages that the package `cryptography` makes; prints what is not as it should be."""
+"""Runs the sample of bindings/python/README.md on messages that the package `cryptography` makes; prints what is not as it should be."""
 
 import datetime
 import re

@@ -1,4 +1,4 @@
-//! The kinds of fields of `c/cms_canon.h`. `scripts/generate` writes this file.
+//! The kinds of fields of `bindings/c/cms_canon.h`. `scripts/generate` writes this file.
 
 /// element: parameters of the AlgorithmIdentifier one level above.
 pub(crate) const PARAMETERS: u32 = 0x01;

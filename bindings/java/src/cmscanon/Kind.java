@@ -1,6 +1,6 @@
 package cmscanon;
 
-/** The kinds of fields of `c/cms_canon.h`. `scripts/generate` writes this file. */
+/** The kinds of fields of `bindings/c/cms_canon.h`. `scripts/generate` writes this file. */
 final class Kind {
     private Kind() {}
 

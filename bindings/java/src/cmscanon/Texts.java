@@ -1,6 +1,6 @@
 package cmscanon;
 
-/** The texts of findings, from `texts/`. `scripts/generate` writes this file. */
+/** The texts of findings, from `docs/texts/`. `scripts/generate` writes this file. */
 final class Texts {
     private Texts() {}
 
