@@ -449,6 +449,27 @@ def complaints_of_fields_that_may_say_nothing():
         yield from complaints_between(cases[name], {"excludes", *empty[name]}, f"clause of {name},")
 
 
+# What a command, an option without a value, and one with a value have in files that are written by hand.
+OF_COMMANDS = {
+    "crates/cms_cli/src/task.rt": '"{}" =>', "crates/cms_cli/specs/CommandLine.antt": 'codes "{}"', "crates/cms_tests/src/commands.rt": '"cms-canon", "{}"',
+    "docs/man/cms-canon.1": "{}", "docs/USING.md": "cms-canon {}",
+}
+OF_OPTIONS = {
+    "crates/cms_cli/src/task.rt": '"{}"', "crates/cms_cli/specs/CommandLine.antt": 'codes "{}"', "crates/cms_tests/src/commands.rt": "--{}",
+    "docs/man/cms-canon.1": r"\-\-{}", "docs/USING.md": "--{}",
+}
+
+
+def complaints_of_commands():
+    """Yields each command and each option of docs/texts/commands.toml that a file lacks which scripts/generate does not write, or has only where
+    scripts/generate writes."""
+    table = tomllib.loads((TOP / "docs" / "texts" / "commands.toml").read_text())
+    for wanted, names in ((OF_COMMANDS, [it["name"] for it in table["command"]]), (OF_OPTIONS, table["options"])):
+        for file, form in wanted.items():
+            by_hand = re.sub(r"commands: scripts/generate.*?the end of commands", "", (TOP / file).read_text(), flags=re.S)
+            yield from (f"{file} does not have {form.format(name)}" for name in names if form.format(name) not in by_hand)
+
+
 def main():
     tally = Tally()
     for name, complaints in globals().copy().items():

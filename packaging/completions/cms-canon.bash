@@ -1,5 +1,5 @@
 # shellcheck shell=bash
-# Completes the words of cms-canon in bash.
+# Completes the words of cms-canon in bash. scripts/generate writes this file from docs/texts/commands.toml.
 
 _cms_canon() {
     local word=${COMP_WORDS[COMP_CWORD]} words=''
@@ -11,9 +11,10 @@ _cms_canon() {
         1:*) words='convert show check cover same help --help --version' ;;
         2:help:*) words='convert show check cover same' ;;
         *:convert:-*) words='--many --help' ;;
-        *:show:-* | *:same:-*) words='--help' ;;
+        *:show:-*) words='--help' ;;
         *:check:-*) words='--content --data --help' ;;
         *:cover:*) words='--signer --content --help' ;;
+        *:same:-*) words='--help' ;;
     esac
     mapfile -t COMPREPLY < <(compgen -W "$words" -- "$word")
 }

@@ -6,7 +6,7 @@ pub(crate) struct Help {
     pub(crate) usage: &'static str,
     /// One line, which the list of commands has too.
     pub(crate) about: &'static str,
-    /// What stands after the options.
+    /// What follows the options.
     pub(crate) more: &'static str,
 }
 
@@ -36,13 +36,12 @@ Examples:
 `cms-canon help convert` explains the input and the refusals, which are those
 of all commands, and `cms-canon help COMMAND` explains each command.";
 
+// scripts/generate writes this from docs/texts/commands.toml.
 pub(crate) const SIGNER: &str = "The number of the signer, in the order read, from 0";
-
 pub(crate) const MANY: &str = "Read messages to the end of the input, and write the DER of each";
-
 pub(crate) const CONTENT: &str = "Take what follows the message as its content";
-
 pub(crate) const DATA: &str = "Take what follows the message as the time-stamped data";
+// The end of the options.
 
 pub(crate) const CONVERT: Help = Help {
     usage: "cms-canon convert [--many] < MESSAGE > DER",
