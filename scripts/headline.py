@@ -663,7 +663,7 @@ STATED = [
     ("docs/TRUST.md", r"(rests on )[0-9,]+( lines of definitions:)", ("lines", "lines of the kit")),
     ("docs/TRUST.md", r"(rests on [0-9,]+ lines of definitions: )[0-9,]+( of)", ("lines",)),
     ("docs/TRUST.md", r"(, and )\d+( of the kit)", ("lines of the kit",)),
-    ("docs/TRUST.md", r"(Item 7 rests on )\d+( lines more)", ("lines more",)),
+    ("docs/TRUST.md", r"(`refines` rests on )\d+( lines more)", ("lines more",)),
 ]
 
 
