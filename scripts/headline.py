@@ -349,8 +349,8 @@ message has more than 2^24 octets.
 
 Take any two inputs in memory. If `both` returns two lists of octets, then of each input and what is written for it:
 
-- **`der_of_a`, `der_of_b`**: the whole input spells a message in BER, and what is written is DER of a message that is the same. The input
-  has at most 2^24 octets, and so has the DER of its message.
+- **`der_of_a`, `der_of_b`**: the whole input spells a message in BER, and what is written is DER of a message that is the same. Neither has
+  more than 2^24 octets.
 - **`same`**: the two lists are equal if and only if there is a message that both inputs denote.
 - **`kept`**: the content is the same; each signature and countersignature covers the same octets, whatever detached content is given; and
   signed attributes, certificates, attribute values other than countersignatures, and everything else that is opaque lie in what is written as they
