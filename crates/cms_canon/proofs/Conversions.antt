@@ -521,12 +521,6 @@ module _ (r : Reading) (limit : ℕ) (a : Result (Option Whole) Fault) (o : Opti
   pub no_message : o ≡ None → IfOk a (IsNext r limit) → IsNext r limit None
   no_message e h = subst (IsNext r limit) e (subst (λ x. IfOk x (IsNext r limit)) is h)
 
-pub when_ok_is : {A B : Type 0} (P : A → Type 0) (a : Result A B) (v : A) → a ≡ Ok v → IfOk a P → P v
-when_ok_is P a v e h = subst (λ x. IfOk x P) e h
-
-pub when_err : {A B : Type 0} (P : B → Type 0) (a : Result A B) (v : B) → a ≡ Err v → IfErr a P → P v
-when_err P a v e h = subst (λ x. IfErr x P) e h
-
 -- no message was read
 pub begun : (left out : Option (List ℕ)) (failures failed limit : ℕ)
     → Progress (between left failures left failures) (since out failed out failed) limit

@@ -14,12 +14,6 @@ use Rattle.cms_canon.specs.Rest.{IsRest}
 use Rattle.cms_canon.specs.Streams.{Reading}
 use Rattle.cms_canon.specs.Whole.{Whole}
 
-pub is_ok : {T E : Type 0} (P : T → Type 0) (r : Result T E) (v : T) → r ≡ Ok v → IfOk r P → P v
-is_ok P r v e h = subst (λ x. IfOk x P) e h
-
-pub is_err : {T E : Type 0} (P : E → Type 0) (r : Result T E) (v : E) → r ≡ Err v → IfErr r P → P v
-is_err P r v e h = subst (λ x. IfErr x P) e h
-
 -- the second message was read, and compared with the first
 module _ (r : Reading) (limit : ℕ) (tail : Tail) (m n : Whole) (read : IsRead r limit tail n) where
   pub second_same : (a : Result Bool SameFault) → IfOk a (λ same. same ≡ same_message m.value n.value)

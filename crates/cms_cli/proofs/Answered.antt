@@ -1,6 +1,7 @@
 -- What the commands did that write a text.
 use Rattle.std.proofs.Common.{◌≡◌, ◌⊎◌, inl, inr, ℕ, List, [], Option, Bool, true, false, Result, Ok, Err, IfOk, IfErr, refl, sym, ◌∙◌, arith}
-use Rattle.std.proofs.KnownBytes.{Consumes-nil}
+use Rattle.std.proofs.KnownBytes.{Consumes-nil, Appends-nil}
+use Rattle.std.proofs.lemmas.List.Elements.{All-nil}
 use Rattle.cms_cli.specs.declared.task.Task.{Task}
 use Rattle.cms_cli.specs.declared.task.Task.TheVariants.{Convert, Show, Check, Cover, Same}
 use Rattle.cms_cli.specs.declared.task.NoTask.{NoTask}
@@ -16,6 +17,8 @@ use Rattle.cms_cli.specs.Answers.{IsSaid, IsAnswered, IsDone, reads_rest, fault_
 use Rattle.cms_cli.specs.Statuses.{AreAllConverted, IsConverted, IsCovered, fault_status, command_limit}
 use Rattle.cms_canon.specs.Given.{GivenFaults}
 use Rattle.cms_canon.specs.Exact.{ExactFaults}
+use Rattle.cms_canon.specs.Many.{IsFaithful}
+use Rattle.cms_canon.specs.declared.cover.NoCover.TheVariants as uncovered
 use Rattle.cms_canon.specs.Messages.{IsRead}
 use Rattle.cms_canon.specs.Streams.{Reading, between, Writing, WritesNone}
 use Rattle.cms_canon.specs.Whole.{Whole}

@@ -1,7 +1,8 @@
 use Rattle.std.proofs.Common.{◌≡◌, ◌<◌, [], Bool, false, ap, arith}
+use Rattle.std.proofs.lemmas.Result.{IfOk-at_ok}
 use Rattle.cms_canon.specs.internal.ManySteps.{InHand, IsBeforeEnd}
 use Rattle.cms_canon.specs.Streams.{reading, writing, HasEnded}
-use Rattle.cms_canon.proofs.Conversions.{begun, goes_on, stops_there, finished, when_ok_is}
+use Rattle.cms_canon.proofs.Conversions.{begun, goes_on, stops_there, finished}
 use Rattle.cms_canon.proofs.many.canonicalise_many.Goals as goal
 
 pub loop-reader-init : goal.loop-reader-init
@@ -22,7 +23,7 @@ returns-in-Ok-false-clause-ok g c =
     c.convert_next-back.ensures.proceeds (g.R.Input.left c.args.reader) (g.R.Input.failures c.args.reader)
     (g.W.Output.contents c.args.writer.now) (g.W.Output.failures c.args.writer.now) c.loop-reader.invariant.0 in
     let end =
-    when_ok_is (λ (more : Bool). more ≡ false → HasEnded r × (b.lengths ≡ []) × IsBeforeEnd b.count × (0 < c.args.limit)) a _ c.in-Ok-false.is
+    IfOk-at_ok (λ (more : Bool). more ≡ false → HasEnded r × (b.lengths ≡ []) × IsBeforeEnd b.count × (0 < c.args.limit)) c.in-Ok-false.is
     c.convert_next-back.ensures.end c.in-Ok-false.field-0-test in
     rw (ap (λ (b : InHand). b.count) c.batch.view_is) (finished (goes_on r w c.args.limit b a p _ c.in-Ok-false.is) end.0 end.1 end.2 end.3)
 

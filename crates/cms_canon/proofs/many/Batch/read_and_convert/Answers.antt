@@ -1,4 +1,5 @@
 use Rattle.std.proofs.Common.{inl, inr, refl, arith, ap}
+use Rattle.std.proofs.lemmas.Result.{IfErr-at_err}
 use Rattle.std.proofs.KnownBytes.{Consumes-nil}
 use Rattle.cms_canon.specs.declared.message.Tail.TheVariants.{Leave}
 use Rattle.cms_canon.specs.Exact.{FirstFault}
@@ -6,7 +7,7 @@ use Rattle.cms_canon.specs.Many.{IsBegun}
 use Rattle.cms_canon.specs.Messages.{MessageFaults}
 use Rattle.cms_canon.specs.internal.ManySteps.{InHand}
 use Rattle.cms_canon.specs.Streams.{reading}
-use Rattle.cms_canon.proofs.Conversions.{is_short, next_message, no_message, when_err}
+use Rattle.cms_canon.proofs.Conversions.{is_short, next_message, no_message}
 use Rattle.cms_canon.proofs.many.Batch.read_and_convert.Goals as goal
 use Rattle.cms_canon.proofs.many.Batch.read_and_convert.Goals.{in-Ok-Some, in-Ok-None, in-Err, then-self-gt-MOST-via-then-self-gt-MOST, then-self-gt-MOST-via-else-self-gt-MOST+then-self-gt-MOST-2}
 use Rattle.cms_tlv.specs.Spelling.{ber}
@@ -51,9 +52,9 @@ returns-clause-proceeds g c left failures out failed p =
           rw (w.self-is, w.writer-is, w.more-is) (w.finish-more.ensures.proceeds left mid after failures some fails out failed c.args.limit
           (rw c.self-2.view_is p) k.0 k.2)
       | in-Err w ↦
-          let f = when_err (MessageFaults r c.args.limit Leave) a _ w.in-Err.is c.read_next-reader.ensures.faults in
-          let first = when_err (FirstFault r c.args.limit Leave) a _ w.in-Err.is c.read_next-reader.ensures.refines in
-          let begun = when_err IsBegun a _ w.in-Err.is c.read_next-reader.ensures.begun in
+          let f = IfErr-at_err (MessageFaults r c.args.limit Leave) w.in-Err.is c.read_next-reader.ensures.faults in
+          let first = IfErr-at_err (FirstFault r c.args.limit Leave) w.in-Err.is c.read_next-reader.ensures.refines in
+          let begun = IfErr-at_err IsBegun w.in-Err.is c.read_next-reader.ensures.begun in
           rw (w.self-is, w.writer-is, w.more-is) (w.stop-in-Err.ensures left mid after failures some fails out failed c.args.limit
           (rw c.self-2.view_is p) (inl (
             (f, first),
