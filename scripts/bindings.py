@@ -41,6 +41,12 @@ def in_order_of_rows(fields: List[Field]) -> List[Field]:
     return found
 
 
+def row_of(record: Record, field: Field, kinds: str) -> str:
+    """Returns the kind and the level of the row of a field, for the code that reads a record."""
+    level = "level" if record.flat else "inner"
+    return f"{kinds}{field.kind}, {level}" if field.kind else "kind, level"
+
+
 class Writer:
     """What the languages have in common."""
 
@@ -135,15 +141,14 @@ class Rust(Writer):
         yield "}"
 
     def read(self, record: Record, field: Field) -> str:
-        kind, level = f"kinds::{field.kind}" if field.kind else "kind", "level" if record.flat or not field.kind else "inner"
+        row = row_of(record, field, "kinds::")
         if field.head_of:
-            return f"rows.peek({kind}, {level})"
+            return f"rows.peek({row})"
         if field.member:
-            return f"rows.below({kind}, kinds::{field.member}, {level})?{'.unwrap_or_default()' if 'rust' in field.empty else ''}"
+            return f"rows.below({row}, kinds::{field.member})?{'.unwrap_or_default()' if 'rust' in field.empty else ''}"
         if field.given or field.not_given:
-            condition = f"{field.given}.is_some()" if field.given else f"{field.not_given}.is_none()"
-            return f"rows.read_if({condition}, {kind}, {level})?"
-        return f"rows.read({kind}, {level})?"
+            return f"rows.read_if({f'{field.given}.is_some()' if field.given else f'{field.not_given}.is_none()'}, {row})?"
+        return f"rows.read({row})?"
 
     def reader(self, record: Record) -> Iterator[str]:
         fields = self.fields(record)
@@ -217,7 +222,7 @@ class Java(Writer):
             yield line
         else:
             yield f"public record {record.name}("
-            yield from ",\n".join(f"        {it}" for it in components).splitlines()[:-1]
+            yield from (f"        {it}," for it in components[:-1])
             yield f"        {components[-1]}) {{"
         yield from self.constructor(record)
 
@@ -228,32 +233,31 @@ class Java(Writer):
         head = [f"// scripts/generate writes this file from {SCHEMA}{', but for its end' if by_hand else ''}.", "package cmscanon;", ""]
         return "\n".join([*head, *(f"import {it};" for it in used), "", lines])
 
-    def item(self, field: Field, kind: str, level: str) -> str:
+    def item(self, field: Field, row: str) -> str:
         """Returns what reads an item of a list, or what is no list."""
         if field.type not in self.records:
-            return f"{self.types[field.type].java[1]}({kind}, {level})"
+            return f"{self.types[field.type].java[1]}({row})"
         signed = f", {in_words(field.over) or 'null'}" if self.records[field.type].is_signed else ""
-        return f"{self.method(field.type)}({kind}, {level}{signed})"
+        return f"{self.method(field.type)}({row}{signed})"
 
     def method(self, record: str) -> str:
         return record[0].lower() + record[1:]
 
     def read(self, record: Record, field: Field) -> str:
-        kind, level = f"Kind.{field.kind}" if field.kind else "kind", "level" if record.flat or not field.kind else "inner"
-        item = self.item(field, kind, level)
+        row = row_of(record, field, "Kind.")
+        item, reading = self.item(field, row), f"(row, at) -> {self.item(field, 'row, at')}"
         if field.type == "signed":
             return "signed"
         if field.head_of:
-            return f"rows.peek({kind}, {level})"
+            return f"rows.peek({row})"
         if field.member:
-            found = f"rows.below({kind}, Kind.{field.member}, {level}, (row, at) -> {self.item(field, 'row', 'at')})"
+            found = f"rows.below({row}, Kind.{field.member}, {reading})"
             return f"Rows.orEmpty({found})" if "java" in field.empty else found
         if field.is_list:
-            return f"rows.all({kind}, {level}, (row, at) -> {self.item(field, 'row', 'at')})"
+            return f"rows.all({row}, {reading})"
         if field.given or field.not_given:
-            condition = f"{in_words(field.given)} != null" if field.given else f"{in_words(field.not_given)} == null"
-            return f"{condition} ? {item} : null"
-        return f"rows.has({kind}, {level}) ? {item} : null" if field.is_optional else item
+            return f"{in_words(field.given or field.not_given)} {'!=' if field.given else '=='} null ? {item} : null"
+        return f"rows.has({row}) ? {item} : null" if field.is_optional else item
 
     def reader(self, record: Record) -> Iterator[str]:
         fields, signed = self.fields(record), ", Octets signed" if record.is_signed else ""

@@ -37,8 +37,8 @@ impl<'a> Read<'a> for SignedData<'a> {
         let digest_algorithms: Vec<AlgorithmIdentifier<'a>> = rows.read(kinds::DIGEST_ALGORITHM, inner)?;
         let content_type: Oid<'a> = rows.read(kinds::CONTENT_TYPE, inner)?;
         let content: Option<Cow<'a, [u8]>> = rows.read(kinds::CONTENT, inner)?;
-        let certificates: Option<Vec<&'a [u8]>> = rows.below(kinds::CERTIFICATES, kinds::CERTIFICATE, inner)?;
-        let crls: Option<Vec<&'a [u8]>> = rows.below(kinds::CRLS, kinds::CRL, inner)?;
+        let certificates: Option<Vec<&'a [u8]>> = rows.below(kinds::CERTIFICATES, inner, kinds::CERTIFICATE)?;
+        let crls: Option<Vec<&'a [u8]>> = rows.below(kinds::CRLS, inner, kinds::CRL)?;
         let signers: Vec<SignerInfo<'a>> = rows.read(kinds::SIGNER, inner)?;
         Ok(SignedData { version, digest_algorithms, content_type, content, certificates, crls, signers })
     }
@@ -81,11 +81,11 @@ impl<'a> Read<'a> for SignerInfo<'a> {
         let digest_algorithm: AlgorithmIdentifier<'a> = rows.read(kinds::SIGNER_DIGEST_ALGORITHM, inner)?;
         let signed_attributes_element: Option<&'a [u8]> = rows.peek(kinds::SIGNED_ATTRIBUTES, inner);
         let signed_attributes: Vec<Attribute<'a>> =
-            rows.below(kinds::SIGNED_ATTRIBUTES, kinds::ATTRIBUTE, inner)?.unwrap_or_default();
+            rows.below(kinds::SIGNED_ATTRIBUTES, inner, kinds::ATTRIBUTE)?.unwrap_or_default();
         let signature_algorithm: AlgorithmIdentifier<'a> = rows.read(kinds::SIGNATURE_ALGORITHM, inner)?;
         let signature: Cow<'a, [u8]> = rows.read(kinds::SIGNATURE, inner)?;
         let unsigned_attributes: Vec<Attribute<'a>> =
-            rows.below(kinds::UNSIGNED_ATTRIBUTES, kinds::ATTRIBUTE, inner)?.unwrap_or_default();
+            rows.below(kinds::UNSIGNED_ATTRIBUTES, inner, kinds::ATTRIBUTE)?.unwrap_or_default();
         Ok(SignerInfo {
             version,
             issuer,

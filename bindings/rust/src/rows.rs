@@ -54,8 +54,8 @@ impl<'a, 'r> Rows<'a, 'r> {
         is_there.then(|| self.read(kind, level)).transpose()
     }
 
-    /// Reads values from rows of a kind one level below the next row; none if that is not of its kind and level.
-    pub(crate) fn below<T: Read<'a>>(&mut self, kind: u32, member: u32, level: u32) -> Result<Option<Vec<T>>, Error> {
+    /// Reads values from rows of a kind, `member`, one level below the next row; none if that is of another kind or level.
+    pub(crate) fn below<T: Read<'a>>(&mut self, kind: u32, level: u32, member: u32) -> Result<Option<Vec<T>>, Error> {
         self.optional(kind, level).map(|_| self.read(member, level + 1)).transpose()
     }
 }

@@ -20,8 +20,8 @@ final class RecordReader {
                 rows.all(Kind.DIGEST_ALGORITHM, inner, (row, at) -> algorithmIdentifier(row, at));
         String contentType = rows.oid(Kind.CONTENT_TYPE, inner);
         Octets content = rows.has(Kind.CONTENT, inner) ? rows.string(Kind.CONTENT, inner) : null;
-        List<Octets> certificates = rows.below(Kind.CERTIFICATES, Kind.CERTIFICATE, inner, (row, at) -> rows.take(row, at));
-        List<Octets> crls = rows.below(Kind.CRLS, Kind.CRL, inner, (row, at) -> rows.take(row, at));
+        List<Octets> certificates = rows.below(Kind.CERTIFICATES, inner, Kind.CERTIFICATE, (row, at) -> rows.take(row, at));
+        List<Octets> crls = rows.below(Kind.CRLS, inner, Kind.CRL, (row, at) -> rows.take(row, at));
         List<SignerInfo> signers = rows.all(Kind.SIGNER, inner, (row, at) -> signerInfo(row, at, content));
         return new SignedData(version, digestAlgorithms, contentType, content, certificates, crls, signers);
     }
@@ -36,11 +36,11 @@ final class RecordReader {
         AlgorithmIdentifier digestAlgorithm = algorithmIdentifier(Kind.SIGNER_DIGEST_ALGORITHM, inner);
         Octets signedAttributesElement = rows.peek(Kind.SIGNED_ATTRIBUTES, inner);
         List<Attribute> signedAttributes =
-                Rows.orEmpty(rows.below(Kind.SIGNED_ATTRIBUTES, Kind.ATTRIBUTE, inner, (row, at) -> attribute(row, at, null)));
+                Rows.orEmpty(rows.below(Kind.SIGNED_ATTRIBUTES, inner, Kind.ATTRIBUTE, (row, at) -> attribute(row, at, null)));
         AlgorithmIdentifier signatureAlgorithm = algorithmIdentifier(Kind.SIGNATURE_ALGORITHM, inner);
         Octets signature = rows.string(Kind.SIGNATURE, inner);
         List<Attribute> unsignedAttributes =
-                Rows.orEmpty(rows.below(Kind.UNSIGNED_ATTRIBUTES, Kind.ATTRIBUTE, inner, (row, at) -> attribute(row, at, signature)));
+                Rows.orEmpty(rows.below(Kind.UNSIGNED_ATTRIBUTES, inner, Kind.ATTRIBUTE, (row, at) -> attribute(row, at, signature)));
         Octets content = signed;
         return new SignerInfo(version, issuer, serialNumber, subjectKeyIdentifier, digestAlgorithm, signedAttributes,
                 signedAttributesElement, signatureAlgorithm, signature, unsignedAttributes, content);

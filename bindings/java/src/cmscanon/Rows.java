@@ -78,8 +78,8 @@ final class Rows {
         return found;
     }
 
-    /** What is read from rows of a kind one level below the next row; null if that is not of its kind and level. */
-    <T> List<T> below(int kind, int member, int level, Reading<T> reading) {
+    /** What is read from rows of a kind, the member's, one level below the next row; null if that is of another kind or level. */
+    <T> List<T> below(int kind, int level, int member, Reading<T> reading) {
         return takesHead(kind, level) ? all(member, level + 1, reading) : null;
     }
 
