@@ -13,7 +13,7 @@ from __future__ import annotations
 import json
 from datetime import datetime, timezone
 from functools import cached_property
-from typing import Any, Dict, Iterable, List, NamedTuple, Optional, Tuple
+from typing import Any, Callable, Dict, Iterable, List, NamedTuple, Optional, Tuple, TypeVar
 
 from cms_canon import _kinds as kinds
 from cms_canon._calls import LIMIT, NO_CONTENT, Octets, Refused, library, limit_of, octets_of
@@ -24,6 +24,7 @@ _KINDS_OF_MESSAGES = {kinds.SIGNED_DATA: "signed-data", kinds.REQUEST: "request"
 _TOKEN = "tSTInfo"  # the name of the content type of a token
 _EXACT = (1 << 53) - 1  # the largest whole number that all readers of JSON keep (RFC 8259, section 6)
 _SHORT = 16  # octets that are written out in what `repr` returns
+_Read = TypeVar("_Read")
 
 
 # ---- as text
@@ -73,13 +74,17 @@ def _plain(value: Any) -> Any:
 # ---- what is small
 
 
+# AlgorithmIdentifier: scripts/generate writes this from bindings/records.toml.
 class AlgorithmIdentifier(NamedTuple):
     """An algorithm with its parameters (RFC 5652, section 10.1)."""
 
     oid: str
-    """The OBJECT IDENTIFIER, as `2.16.840.1.101.3.4.2.1`; or `hex:` and its contents octets if a subidentifier is 2**64 or more."""
+    """The OBJECT IDENTIFIER, written as `2.16.840.1.101.3.4.2.1`; or as `hex:` and its contents octets if a subidentifier has more
+    than 64 bits."""
     parameters: Optional[bytes]
     """The parameters, one element; None if they are absent. NULL is not absent: it is `05 00`."""
+
+    # The end of AlgorithmIdentifier.
 
     @property
     def name(self) -> Optional[str]:
@@ -90,25 +95,33 @@ class AlgorithmIdentifier(NamedTuple):
         return _repr_of(self)
 
 
+# MessageImprint: scripts/generate writes this from bindings/records.toml.
 class MessageImprint(NamedTuple):
-    """The digest of the data that were time-stamped (RFC 3161, section 2.4.1)."""
+    """The digest of the data that are time-stamped (RFC 3161, section 2.4.1)."""
 
     hash_algorithm: AlgorithmIdentifier
+    """hashAlgorithm: the algorithm of the digest."""
     hashed_message: bytes
+    """hashedMessage: the octets of the digest."""
+
+    # The end of MessageImprint.
 
     def __repr__(self) -> str:
         return _repr_of(self)
 
 
+# Attribute: scripts/generate writes this from bindings/records.toml.
 class Attribute(NamedTuple):
     """An attribute (RFC 5652, section 5.3)."""
 
     oid: str
-    """attrType, as `1.2.840.113549.1.9.4`; written as that of an `AlgorithmIdentifier`."""
+    """attrType, as `1.2.840.113549.1.9.4`; written as `AlgorithmIdentifier.oid`."""
     values: Tuple[bytes, ...]
     """attrValues in the order read, each one element. An unsigned attribute countersignature has none here."""
     countersignatures: Tuple[SignerInfo, ...] = ()
-    """The values of an unsigned attribute countersignature in the order read."""
+    """The values of an unsigned attribute countersignature in the order read (section 11.4); else empty."""
+
+    # The end of Attribute.
 
     @property
     def name(self) -> Optional[str]:
@@ -165,75 +178,103 @@ class Part:
         """The numbers of its fields, by their kinds."""
         return self._rows.below(self._number)
 
+    def _if(self, read: Callable[[int], _Read], kind: int) -> Optional[_Read]:
+        """What is read from a row; None if there is no row of this kind."""
+        return read(kind) if kind in self._numbers else None
+
+    def _flag(self, kind: int) -> bool:
+        return kind in self._numbers
+
     def _octets(self, kind: int) -> bytes:
         return self._rows.octets_of(self._numbers[kind][0])
-
-    def _octets_if(self, kind: int) -> Optional[bytes]:
-        return self._octets(kind) if kind in self._numbers else None
-
-    def _integer(self, kind: int) -> int:
-        return int.from_bytes(self._octets(kind), "big", signed=True)
-
-    def _integer_if(self, kind: int) -> Optional[int]:
-        return self._integer(kind) if kind in self._numbers else None
-
-    def _oid(self, kind: int) -> str:
-        return dotted(self._octets(kind))
-
-    def _oid_if(self, kind: int) -> Optional[str]:
-        return self._oid(kind) if kind in self._numbers else None
 
     def _string(self, kind: int) -> bytes:
         return self._rows.joined(self._numbers[kind])
 
-    def _algorithm(self, kind: int) -> AlgorithmIdentifier:
+    def _integer(self, kind: int) -> int:
+        return int.from_bytes(self._octets(kind), "big", signed=True)
+
+    def _oid(self, kind: int) -> str:
+        return dotted(self._octets(kind))
+
+    def _text(self, kind: int) -> str:
+        return self._octets(kind).decode("ascii")
+
+    def _time(self, kind: int) -> Optional[datetime]:
+        """A GeneralizedTime in DER (X.690, section 11.7)."""
+        digits, _, fraction = self._text(kind)[:-1].partition(".")
+        year = int(digits[:4])
+        month, day, hour, minute, second = (int(digits[at : at + 2]) for at in range(4, 14, 2))
+        microsecond = int(fraction[:6].ljust(6, "0"))
+        return datetime(year, month, day, hour, minute, second, microsecond, timezone.utc) if year else None
+
+    def _bits(self, kind: int) -> Tuple[int, ...]:
+        """The numbers of the named bits that are set (X.680, section 22)."""
+        contents = self._octets(kind)
+        count = 8 * (len(contents) - 1) - contents[0]  # the first octet says how many bits at the end are unused
+        return tuple(bit for bit in range(count) if contents[1 + bit // 8] & 0x80 >> bit % 8)
+
+    def _algorithm_identifier(self, kind: int) -> AlgorithmIdentifier:
         return self._algorithm_at(self._numbers[kind][0])
+
+    def _algorithm_identifiers(self, kind: int) -> Tuple[AlgorithmIdentifier, ...]:
+        return tuple(map(self._algorithm_at, self._numbers.get(kind, ())))
 
     def _algorithm_at(self, number: int) -> AlgorithmIdentifier:
         parameters = self._rows.next_if(number, kinds.PARAMETERS)
         oid = dotted(self._rows.octets_of(number))
         return AlgorithmIdentifier(oid, None if parameters is None else self._rows.octets_of(parameters))
 
-    def _imprint(self) -> MessageImprint:
-        return MessageImprint(self._algorithm(kinds.HASH_ALGORITHM), self._string(kinds.HASHED_MESSAGE))
+    def _message_imprint(self, kind: int) -> MessageImprint:
+        return MessageImprint(self._algorithm_identifier(kind), self._string(kinds.HASHED_MESSAGE))
+
+    def _accuracy(self, kind: int) -> Accuracy:
+        return Accuracy(self._rows, self._numbers[kind][0])
+
+    def _signed_data(self, kind: int) -> SignedData:
+        return SignedData(self._rows, self._numbers[kind][0])
 
 
+# Accuracy: scripts/generate writes this from bindings/records.toml.
 class Accuracy(Part):
-    """By how much the time of a token may be off (RFC 3161, section 2.4.2). What is absent is None, and counts as 0."""
+    """By how much the time of a token may be off (RFC 3161, section 2.4.2): the sum of what is not absent."""
 
     @cached_property
     def seconds(self) -> Optional[int]:
-        """Whole seconds."""
-        return self._integer_if(kinds.SECONDS)
+        """Whole seconds, any INTEGER; None if they are absent."""
+        return self._if(self._integer, kinds.SECONDS)
 
     @cached_property
     def millis(self) -> Optional[int]:
-        """Milliseconds, 1 to 999, which are added to them."""
-        return self._integer_if(kinds.MILLIS)
+        """Milliseconds, from 1 to 999; None if they are absent."""
+        return self._if(self._integer, kinds.MILLIS)
 
     @cached_property
     def micros(self) -> Optional[int]:
-        """Microseconds, 1 to 999, likewise."""
-        return self._integer_if(kinds.MICROS)
+        """Microseconds, from 1 to 999; None if they are absent."""
+        return self._if(self._integer, kinds.MICROS)
+
+    # The end of Accuracy.
 
 
+# TstInfo: scripts/generate writes this from bindings/records.toml.
 class TstInfo(Part):
     """What a time-stamp token says (RFC 3161, section 2.4.2)."""
 
     @cached_property
     def version(self) -> int:
-        """As received: 1 by RFC 3161."""
+        """Any INTEGER, as received: 1 by RFC 3161."""
         return self._integer(kinds.TST_VERSION)
 
     @cached_property
     def policy(self) -> str:
-        """The policy under which the token was made, an OBJECT IDENTIFIER."""
+        """The policy under which the token was made, written as `AlgorithmIdentifier.oid`."""
         return self._oid(kinds.TST_POLICY)
 
     @cached_property
     def imprint(self) -> MessageImprint:
         """messageImprint: the digest of the data that were time-stamped."""
-        return self._imprint()
+        return self._message_imprint(kinds.HASH_ALGORITHM)
 
     @cached_property
     def serial_number(self) -> int:
@@ -243,154 +284,145 @@ class TstInfo(Part):
     @cached_property
     def gen_time_text(self) -> str:
         """genTime as it stands in the token: `YYYYMMDDhhmmss`, perhaps a full stop and the digits of a fraction, and `Z`."""
-        return self._octets(kinds.GEN_TIME).decode("ascii")
+        return self._text(kinds.GEN_TIME)
 
     @cached_property
     def gen_time(self) -> Optional[datetime]:
         """genTime, in UTC. What is finer than microseconds is cut off; `gen_time_text` has it. None in the year 0000, which a
         `datetime` cannot be in."""
-        digits, _, fraction = self.gen_time_text[:-1].partition(".")
-        year = int(digits[:4])
-        month, day, hour, minute, second = (int(digits[at : at + 2]) for at in range(4, 14, 2))
-        microsecond = int(fraction[:6].ljust(6, "0"))
-        return datetime(year, month, day, hour, minute, second, microsecond, timezone.utc) if year else None
+        return self._time(kinds.GEN_TIME)
 
     @cached_property
     def accuracy(self) -> Optional[Accuracy]:
         """By how much the time may be off; None if the token does not say it."""
-        numbers = self._numbers.get(kinds.ACCURACY)
-        return None if numbers is None else Accuracy(self._rows, numbers[0])
+        return self._if(self._accuracy, kinds.ACCURACY)
 
     @cached_property
     def ordering(self) -> bool:
         """Whether any two tokens of this authority are in the order of their times, however little these differ."""
-        return kinds.ORDERING in self._numbers
+        return self._flag(kinds.ORDERING)
 
     @cached_property
     def nonce(self) -> Optional[int]:
         """That of the request; None if it has none."""
-        return self._integer_if(kinds.TST_NONCE)
+        return self._if(self._integer, kinds.TST_NONCE)
 
     @cached_property
     def tsa(self) -> Optional[bytes]:
-        """The name of the authority, one element; None if it is absent."""
-        return self._octets_if(kinds.TSA)
+        """The name of the authority, one element, which begins with A0; None if it is absent."""
+        return self._if(self._octets, kinds.TSA)
 
     @cached_property
     def extensions(self) -> Optional[bytes]:
-        """One element; None if they are absent."""
-        return self._octets_if(kinds.TST_EXTENSIONS)
+        """One element, which begins with A1; None if they are absent."""
+        return self._if(self._octets, kinds.TST_EXTENSIONS)
+
+    # The end of TstInfo.
 
 
+# TimeStampReq: scripts/generate writes this from bindings/records.toml.
 class TimeStampReq(Part):
     """A request for a time-stamp (RFC 3161, section 2.4.1)."""
 
     @cached_property
     def version(self) -> int:
-        """As received: 1 by RFC 3161."""
+        """Any INTEGER, as received: 1 by RFC 3161."""
         return self._integer(kinds.REQUEST_VERSION)
 
     @cached_property
     def imprint(self) -> MessageImprint:
         """messageImprint: the digest of the data to be time-stamped."""
-        return self._imprint()
+        return self._message_imprint(kinds.HASH_ALGORITHM)
 
     @cached_property
     def policy(self) -> Optional[str]:
-        """reqPolicy, an OBJECT IDENTIFIER; None if it is absent."""
-        return self._oid_if(kinds.REQUEST_POLICY)
+        """reqPolicy, written as `AlgorithmIdentifier.oid`; None if it is absent."""
+        return self._if(self._oid, kinds.REQUEST_POLICY)
 
     @cached_property
     def nonce(self) -> Optional[int]:
         """The number that the token is to have too; None if it is absent."""
-        return self._integer_if(kinds.REQUEST_NONCE)
+        return self._if(self._integer, kinds.REQUEST_NONCE)
 
     @cached_property
     def cert_req(self) -> bool:
         """Whether the certificate of the authority is asked for."""
-        return kinds.CERT_REQ in self._numbers
+        return self._flag(kinds.CERT_REQ)
 
     @cached_property
     def extensions(self) -> Optional[bytes]:
-        """One element; None if they are absent."""
-        return self._octets_if(kinds.REQUEST_EXTENSIONS)
+        """One element, which begins with A0; None if they are absent."""
+        return self._if(self._octets, kinds.REQUEST_EXTENSIONS)
+
+    # The end of TimeStampReq.
 
 
+# TimeStampResp: scripts/generate writes this from bindings/records.toml.
 class TimeStampResp(Part):
     """A response to a request for a time-stamp (RFC 3161, section 2.4.2)."""
 
     @cached_property
     def status(self) -> int:
-        """As received. Whether it fits that there is a token is a finding of `check`, F19."""
+        """PKIStatus, as received. Whether it fits that there is a token is a finding of `check`, F19."""
         return self._integer(kinds.STATUS)
 
     @cached_property
     def status_string(self) -> Optional[bytes]:
         """PKIFreeText, one element; None if it is absent."""
-        return self._octets_if(kinds.STATUS_STRING)
+        return self._if(self._octets, kinds.STATUS_STRING)
 
     @cached_property
     def fail_info(self) -> Optional[Tuple[int, ...]]:
-        """failInfo: the numbers of the named bits that are set, ascending. None if it is absent; empty if none is set."""
-        contents = self._octets_if(kinds.FAIL_INFO)
-        if contents is None:
-            return None
-        count = 8 * (len(contents) - 1) - contents[0]  # the first octet says how many bits at the end are unused
-        return tuple(bit for bit in range(count) if contents[1 + bit // 8] & 0x80 >> bit % 8)
+        """failInfo, a PKIFailureInfo; None if it is absent. It has the numbers of the named bits that are set, ascending; it is
+        empty if none is set."""
+        return self._if(self._bits, kinds.FAIL_INFO)
 
     @cached_property
     def token(self) -> Optional[SignedData]:
         """The SignedData of timeStampToken; None if there is no token."""
-        numbers = self._numbers.get(kinds.SIGNED_DATA)
-        return None if numbers is None else SignedData(self._rows, numbers[0])
+        return self._if(self._signed_data, kinds.SIGNED_DATA)
+
+    # The end of TimeStampResp.
 
 
+# SignerInfo: scripts/generate writes this from bindings/records.toml.
 class SignerInfo(Part):
-    """A signer of a message, or a countersignature (RFC 5652, sections 5.3 and 11.4)."""
-
-    _signed: Optional[OctetString]
-
-    def __init__(self, rows: Rows, number: int, signed: Optional[OctetString]) -> None:
-        super().__init__(rows, number)
-        self.__dict__.update(_signed=signed)
-
-    def __reduce__(self) -> Tuple[Any, ...]:
-        return type(self), (self._rows, self._number, self._signed)
+    """A signer of a message, or a countersignature, as it was received (RFC 5652, sections 5.3 and 11.4)."""
 
     @cached_property
     def version(self) -> int:
-        """As received. Whether it fits the rest is a finding of `check`, F2."""
+        """Any INTEGER, as received. Whether it fits the rest is a finding of `check`, F2."""
         return self._integer(kinds.SIGNER_VERSION)
 
     @cached_property
     def issuer(self) -> Optional[bytes]:
         """The name of the issuer of the signer's certificate, one element; None if the signer is named by a key identifier."""
-        return self._octets_if(kinds.ISSUER)
+        return self._if(self._octets, kinds.ISSUER)
 
     @cached_property
     def serial_number(self) -> Optional[int]:
         """The serial number of the signer's certificate; None if the signer is named by a key identifier."""
-        return self._integer_if(kinds.SERIAL_NUMBER)
+        return self._if(self._integer, kinds.SERIAL_NUMBER)
 
     @cached_property
     def subject_key_identifier(self) -> Optional[bytes]:
         """The key identifier of the signer's certificate; None if the signer is named by issuer and serial number."""
-        return self._string(kinds.SUBJECT_KEY_IDENTIFIER) if kinds.SUBJECT_KEY_IDENTIFIER in self._numbers else None
+        return self._if(self._string, kinds.SUBJECT_KEY_IDENTIFIER)
 
     @cached_property
     def digest_algorithm(self) -> AlgorithmIdentifier:
         """digestAlgorithm: the algorithm that the content and the signed attributes are digested with."""
-        return self._algorithm(kinds.SIGNER_DIGEST_ALGORITHM)
+        return self._algorithm_identifier(kinds.SIGNER_DIGEST_ALGORITHM)
 
     @cached_property
     def signed_attributes(self) -> Optional[Tuple[Attribute, ...]]:
         """signedAttrs in the order read; None if they are absent."""
-        return self._attributes(kinds.SIGNED_ATTRIBUTES)
+        return self._attributes(kinds.SIGNED_ATTRIBUTES, kinds.ATTRIBUTE)
 
     @cached_property
     def signature_algorithm(self) -> AlgorithmIdentifier:
-        """signatureAlgorithm."""
-        return self._algorithm(kinds.SIGNATURE_ALGORITHM)
+        """signatureAlgorithm: the algorithm of the signature."""
+        return self._algorithm_identifier(kinds.SIGNATURE_ALGORITHM)
 
     @cached_property
     def signature(self) -> bytes:
@@ -400,7 +432,18 @@ class SignerInfo(Part):
     @cached_property
     def unsigned_attributes(self) -> Optional[Tuple[Attribute, ...]]:
         """unsignedAttrs in the order read; None if they are absent."""
-        return self._attributes(kinds.UNSIGNED_ATTRIBUTES)
+        return self._attributes(kinds.UNSIGNED_ATTRIBUTES, kinds.ATTRIBUTE)
+
+    # The end of SignerInfo.
+
+    _signed: Optional[OctetString]
+
+    def __init__(self, rows: Rows, number: int, signed: Optional[OctetString]) -> None:
+        super().__init__(rows, number)
+        self.__dict__.update(_signed=signed)
+
+    def __reduce__(self) -> Tuple[Any, ...]:
+        return type(self), (self._rows, self._number, self._signed)
 
     @property
     def countersignatures(self) -> Tuple[SignerInfo, ...]:
@@ -418,7 +461,7 @@ class SignerInfo(Part):
         content of its own, and never for a countersignature. Raises `Refused` with the reason 103 if nothing is covered.
         """
         given = None if content is None else octets_of(content)
-        attributes = self._octets_if(kinds.SIGNED_ATTRIBUTES)
+        attributes = self._if(self._octets, kinds.SIGNED_ATTRIBUTES)
         if attributes is not None:
             return b"\x31" + attributes[1:]
         if self._signed is not None:
@@ -432,11 +475,12 @@ class SignerInfo(Part):
         """The signature, as what its countersignatures sign."""
         return OctetString(self._rows, self._numbers[kinds.SIGNATURE])
 
-    def _attributes(self, kind: int) -> Optional[Tuple[Attribute, ...]]:
+    def _attributes(self, kind: int, member: int) -> Optional[Tuple[Attribute, ...]]:
+        """The attributes below a row; None if there is no row of this kind."""
         if kind not in self._numbers:
             return None
         (number,) = self._numbers[kind]
-        return tuple(map(self._attribute_at, self._rows.below(number)[kinds.ATTRIBUTE]))
+        return tuple(map(self._attribute_at, self._rows.below(number)[member]))
 
     def _attribute_at(self, number: int) -> Attribute:
         below = self._rows.below(number)
@@ -445,46 +489,48 @@ class SignerInfo(Part):
         return Attribute(dotted(self._rows.octets_of(number)), values, countersignatures)
 
 
+# SignedData: scripts/generate writes this from bindings/records.toml.
 class SignedData(Part):
     """A SignedData (RFC 5652, section 5.1)."""
 
     @cached_property
     def version(self) -> int:
-        """As received. Whether it fits the rest is a finding of `check`, F1."""
+        """Any INTEGER, as received. Whether it fits the rest is a finding of `check`, F1."""
         return self._integer(kinds.VERSION)
 
     @cached_property
     def digest_algorithms(self) -> Tuple[AlgorithmIdentifier, ...]:
         """digestAlgorithms in the order read."""
-        return tuple(map(self._algorithm_at, self._numbers.get(kinds.DIGEST_ALGORITHM, ())))
+        return self._algorithm_identifiers(kinds.DIGEST_ALGORITHM)
 
     @cached_property
     def content_type(self) -> str:
-        """eContentType, as `1.2.840.113549.1.7.1`; written as that of an `AlgorithmIdentifier`."""
+        """eContentType, as `1.2.840.113549.1.7.1`; written as `AlgorithmIdentifier.oid`."""
         return self._oid(kinds.CONTENT_TYPE)
 
     @cached_property
     def content(self) -> Optional[memoryview]:
-        """eContent, where it lies in what was read, or a copy if it came in several segments. None if it is detached."""
-        return None if self._content is None else self._content.view
+        """eContent, where it lies in what was read, or a copy if it came in several segments; None if it is detached."""
+        return self._if(self._content_view, kinds.CONTENT)
 
     @cached_property
     def certificates(self) -> Optional[Tuple[memoryview, ...]]:
-        """The certificates in the order read, each one element: a Certificate (RFC 5280) if it begins with 30. None if the field is
+        """The certificates in the order read, each one element: a Certificate (RFC 5280) if it begins with 30; None if the field is
         absent, which is not the same as an empty one."""
-        numbers = self._members(kinds.CERTIFICATES, kinds.CERTIFICATE)
-        return None if numbers is None else self._rows.views_of(numbers)
+        return self._views(kinds.CERTIFICATES, kinds.CERTIFICATE)
 
     @cached_property
     def crls(self) -> Optional[Tuple[memoryview, ...]]:
-        """The revocation information, likewise: a CertificateList (RFC 5280) if it begins with 30."""
-        numbers = self._members(kinds.CRLS, kinds.CRL)
-        return None if numbers is None else self._rows.views_of(numbers)
+        """The revocation information in the order read, each one element: a CertificateList (RFC 5280) if it begins with 30; None
+        if the field is absent."""
+        return self._views(kinds.CRLS, kinds.CRL)
 
     @cached_property
     def signers(self) -> Tuple[SignerInfo, ...]:
         """signerInfos in the order read."""
-        return tuple(SignerInfo(self._rows, it, self._content) for it in self._numbers.get(kinds.SIGNER, ()))
+        return self._signer_infos(kinds.SIGNER)
+
+    # The end of SignedData.
 
     @cached_property
     def tst_info(self) -> Optional[TstInfo]:
@@ -496,7 +542,20 @@ class SignedData(Part):
 
     @cached_property
     def _content(self) -> Optional[OctetString]:
-        return OctetString(self._rows, self._numbers[kinds.CONTENT]) if kinds.CONTENT in self._numbers else None
+        return self._if(self._octet_string, kinds.CONTENT)
+
+    def _octet_string(self, kind: int) -> OctetString:
+        return OctetString(self._rows, self._numbers[kind])
+
+    def _content_view(self, _: int) -> Optional[memoryview]:
+        return None if self._content is None else self._content.view
+
+    def _signer_infos(self, kind: int) -> Tuple[SignerInfo, ...]:
+        return tuple(SignerInfo(self._rows, it, self._content) for it in self._numbers.get(kind, ()))
+
+    def _views(self, kind: int, member: int) -> Optional[Tuple[memoryview, ...]]:
+        numbers = self._members(kind, member)
+        return None if numbers is None else self._rows.views_of(numbers)
 
     @cached_property
     def _certificates(self) -> Tuple[bytes, ...]:
@@ -540,6 +599,8 @@ class Message(Part):
             return self.response.token
         return SignedData(self._rows) if self._rows.kinds[0] == kinds.SIGNED_DATA else None
 
+    # What is in a SignedData: scripts/generate writes this from bindings/records.toml.
+
     @property
     def version(self) -> Optional[int]:
         """That of the SignedData."""
@@ -574,6 +635,8 @@ class Message(Part):
     def signers(self) -> Tuple[SignerInfo, ...]:
         """Those of the SignedData."""
         return () if self.signed_data is None else self.signed_data.signers
+
+    # The end of what is in a SignedData.
 
     @property
     def tst_info(self) -> Optional[TstInfo]:

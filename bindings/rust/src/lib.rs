@@ -25,6 +25,7 @@ mod ffi;
 mod kinds;
 mod message;
 mod reader;
+mod records;
 mod rows;
 mod texts;
 mod values;
@@ -32,9 +33,9 @@ mod values;
 pub use check::{Finding, Job, Verdict};
 pub use digests::{ContentAsked, Digest, DigestAlgorithm, DigestsAsked};
 pub use error::{Error, Refused};
-pub use message::{
-    Accuracy, AlgorithmIdentifier, Attribute, Message, MessageImprint, SignedData, Signer, SignerInfo, TimeStampReq, TimeStampResp,
-    TstInfo,
+pub use message::{Message, Signer};
+pub use records::{
+    Accuracy, AlgorithmIdentifier, Attribute, MessageImprint, SignedData, SignerInfo, TimeStampReq, TimeStampResp, TstInfo,
 };
 pub use values::{GeneralizedTime, Integer, NamedBits, Oid};
 

@@ -4,7 +4,7 @@ use std::borrow::Cow;
 use std::ops::Deref;
 
 use crate::error::{Error, Refused};
-use crate::values::{GeneralizedTime, Integer, NamedBits, Oid};
+use crate::records::{SignedData, SignerInfo, TimeStampReq, TimeStampResp, TstInfo};
 
 /// A message that was read. Its fields are slices of the input; only a string that was received in several segments is a copy.
 #[derive(Clone, Debug, PartialEq, Eq)]
@@ -58,26 +58,6 @@ impl<'a> Message<'a> {
     }
 }
 
-/// SignedData (RFC 5652, section 5.1).
-#[derive(Clone, Debug, PartialEq, Eq)]
-#[non_exhaustive]
-pub struct SignedData<'a> {
-    /// Any INTEGER.
-    pub version: Integer<'a>,
-    /// In the order read.
-    pub digest_algorithms: Vec<AlgorithmIdentifier<'a>>,
-    /// eContentType.
-    pub content_type: Oid<'a>,
-    /// eContent; none if it is detached.
-    pub content: Option<Cow<'a, [u8]>>,
-    /// In the order read, each one element: a Certificate (RFC 5280) if it begins with 30.
-    pub certificates: Option<Vec<&'a [u8]>>,
-    /// In the order read, each one element: a CertificateList (RFC 5280) if it begins with 30.
-    pub crls: Option<Vec<&'a [u8]>>,
-    /// In the order read.
-    pub signers: Vec<SignerInfo<'a>>,
-}
-
 impl SignedData<'_> {
     /// Returns what the token says; none if this is no time-stamp token, or if its content is detached.
     ///
@@ -93,32 +73,6 @@ impl SignedData<'_> {
 }
 
 const TST_INFO: &[u8] = b"\x2a\x86\x48\x86\xf7\x0d\x01\x09\x10\x01\x04"; // id-ct-TSTInfo (RFC 3161, section 2.4.2)
-
-/// A signer of a message, or a countersignature (RFC 5652, sections 5.3 and 11.4), as it was received.
-#[derive(Clone, Debug, PartialEq, Eq)]
-#[non_exhaustive]
-pub struct SignerInfo<'a> {
-    /// Any INTEGER.
-    pub version: Integer<'a>,
-    /// The name of the issuer of the signer's certificate, one element; none if the signer is named by a key identifier.
-    pub issuer: Option<&'a [u8]>,
-    /// The serial number of the signer's certificate; none if the signer is named by a key identifier.
-    pub serial_number: Option<Integer<'a>>,
-    /// The key identifier of the signer's certificate; none if the signer is named by issuer and serial number.
-    pub subject_key_identifier: Option<Cow<'a, [u8]>>,
-    /// The algorithm that the content and the signed attributes are digested with.
-    pub digest_algorithm: AlgorithmIdentifier<'a>,
-    /// In the order read; empty if they are absent.
-    pub signed_attributes: Vec<Attribute<'a>>,
-    /// signedAttrs, one element, which begins with A0; none if they are absent.
-    pub signed_attributes_element: Option<&'a [u8]>,
-    /// The algorithm of the signature.
-    pub signature_algorithm: AlgorithmIdentifier<'a>,
-    /// The octets of the signature.
-    pub signature: Cow<'a, [u8]>,
-    /// In the order read; empty if they are absent.
-    pub unsigned_attributes: Vec<Attribute<'a>>,
-}
 
 /// A signer of a message, or a countersignature, with what it signs. The fields are those of [`SignerInfo`].
 #[derive(Clone, Copy, Debug, PartialEq, Eq)]
@@ -180,105 +134,3 @@ impl<'m> Signer<'m> {
 }
 
 const SET_OF: u8 = 0x31;
-
-/// An attribute (RFC 5652, section 5.3).
-#[derive(Clone, Debug, PartialEq, Eq)]
-#[non_exhaustive]
-pub struct Attribute<'a> {
-    /// Its type.
-    pub oid: Oid<'a>,
-    /// Each one element, in the order read; empty if the attribute has countersignatures.
-    pub values: Vec<&'a [u8]>,
-    /// The values of an unsigned attribute countersignature, in the order read (section 11.4); else empty.
-    pub countersignatures: Vec<SignerInfo<'a>>,
-}
-
-/// An algorithm with its parameters (RFC 5652, section 10.1).
-#[derive(Clone, Copy, Debug, PartialEq, Eq)]
-#[non_exhaustive]
-pub struct AlgorithmIdentifier<'a> {
-    /// The algorithm.
-    pub oid: Oid<'a>,
-    /// One element; none if they are absent. NULL is not absent: it is `05 00`.
-    pub parameters: Option<&'a [u8]>,
-}
-
-/// The digest of the data that are time-stamped (RFC 3161, section 2.4.1).
-#[derive(Clone, Debug, PartialEq, Eq)]
-#[non_exhaustive]
-pub struct MessageImprint<'a> {
-    /// The algorithm of the digest.
-    pub hash_algorithm: AlgorithmIdentifier<'a>,
-    /// The octets of the digest.
-    pub hashed_message: Cow<'a, [u8]>,
-}
-
-/// A request for a time-stamp (RFC 3161, section 2.4.1).
-#[derive(Clone, Debug, PartialEq, Eq)]
-#[non_exhaustive]
-pub struct TimeStampReq<'a> {
-    /// Any INTEGER.
-    pub version: Integer<'a>,
-    /// messageImprint.
-    pub imprint: MessageImprint<'a>,
-    /// reqPolicy.
-    pub policy: Option<Oid<'a>>,
-    /// A number that the token has to repeat.
-    pub nonce: Option<Integer<'a>>,
-    /// Whether the certificate of the authority is asked for.
-    pub cert_req: bool,
-    /// One element, which begins with A0.
-    pub extensions: Option<&'a [u8]>,
-}
-
-/// A response to a request for a time-stamp (RFC 3161, section 2.4.2).
-#[derive(Clone, Debug, PartialEq, Eq)]
-#[non_exhaustive]
-pub struct TimeStampResp<'a> {
-    /// PKIStatus.
-    pub status: Integer<'a>,
-    /// PKIFreeText, one element.
-    pub status_string: Option<&'a [u8]>,
-    /// PKIFailureInfo.
-    pub fail_info: Option<NamedBits<'a>>,
-    /// The SignedData of timeStampToken.
-    pub token: Option<SignedData<'a>>,
-}
-
-/// What a time-stamp token says (RFC 3161, section 2.4.2).
-#[derive(Clone, Debug, PartialEq, Eq)]
-#[non_exhaustive]
-pub struct TstInfo<'a> {
-    /// Any INTEGER.
-    pub version: Integer<'a>,
-    /// The policy of the authority.
-    pub policy: Oid<'a>,
-    /// messageImprint.
-    pub imprint: MessageImprint<'a>,
-    /// The number of the token.
-    pub serial_number: Integer<'a>,
-    /// The time of the token.
-    pub gen_time: GeneralizedTime<'a>,
-    /// By how much the time may be off.
-    pub accuracy: Option<Accuracy<'a>>,
-    /// Whether tokens of the authority are ordered by their times alone.
-    pub ordering: bool,
-    /// The number that the request has.
-    pub nonce: Option<Integer<'a>>,
-    /// The name of the authority, one element, which begins with A0.
-    pub tsa: Option<&'a [u8]>,
-    /// One element, which begins with A1.
-    pub extensions: Option<&'a [u8]>,
-}
-
-/// By how much a time may be off (RFC 3161, section 2.4.2): the sum of these.
-#[derive(Clone, Copy, Debug, PartialEq, Eq)]
-#[non_exhaustive]
-pub struct Accuracy<'a> {
-    /// Any INTEGER.
-    pub seconds: Option<Integer<'a>>,
-    /// Milliseconds, from 1 to 999.
-    pub millis: Option<u16>,
-    /// Microseconds, from 1 to 999.
-    pub micros: Option<u16>,
-}

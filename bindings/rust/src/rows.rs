@@ -4,7 +4,7 @@ use std::borrow::Cow;
 
 use crate::error::Error;
 use crate::ffi::Row;
-use crate::values::{Integer, Oid};
+use crate::values::{GeneralizedTime, Integer, NamedBits, Oid};
 
 /// The rows of a message that were not taken yet.
 pub(crate) struct Rows<'a, 'r> {
@@ -35,35 +35,61 @@ impl<'a, 'r> Rows<'a, 'r> {
         assert!(self.left.is_empty(), "more rows come: {:?}", self.left.first());
     }
 
-    /// Takes the next row if it is of this kind and level.
-    pub(crate) fn optional(&mut self, kind: u32, level: u32) -> Option<&'a [u8]> {
+    /// Returns the octets of the next row, which is not taken; none if it is of another kind or level.
+    pub(crate) fn peek(&self, kind: u32, level: u32) -> Option<&'a [u8]> {
+        Rows { input: self.input, left: self.left }.optional(kind, level)
+    }
+
+    fn optional(&mut self, kind: u32, level: u32) -> Option<&'a [u8]> {
         self.has(kind, level).then(|| self.take(kind, level))
     }
 
-    /// Returns what is made of rows as long as the next one is of this kind and level.
-    pub(crate) fn all<T>(
-        &mut self,
-        kind: u32,
-        level: u32,
-        mut make: impl FnMut(&mut Self) -> Result<T, Error>,
-    ) -> Result<Vec<T>, Error> {
+    /// Reads a value, whose first row has to be of this kind and level.
+    pub(crate) fn read<T: Read<'a>>(&mut self, kind: u32, level: u32) -> Result<T, Error> {
+        T::read(self, kind, level)
+    }
+
+    /// Reads a value that is there if this is so.
+    pub(crate) fn read_if<T: Read<'a>>(&mut self, is_there: bool, kind: u32, level: u32) -> Result<Option<T>, Error> {
+        is_there.then(|| self.read(kind, level)).transpose()
+    }
+
+    /// Reads values from rows of a kind, `member`, one level below the next row; none if that is of another kind or level.
+    pub(crate) fn below<T: Read<'a>>(&mut self, kind: u32, level: u32, member: u32) -> Result<Option<Vec<T>>, Error> {
+        self.optional(kind, level).map(|_| self.read(member, level + 1)).transpose()
+    }
+}
+
+/// What is read from rows.
+pub(crate) trait Read<'a>: Sized {
+    /// Reads a value, whose first row has to be of this kind and level.
+    fn read(rows: &mut Rows<'a, '_>, kind: u32, level: u32) -> Result<Self, Error>;
+}
+
+/// A value that may be absent: it is if the next row is of another kind or level.
+impl<'a, T: Read<'a>> Read<'a> for Option<T> {
+    fn read(rows: &mut Rows<'a, '_>, kind: u32, level: u32) -> Result<Self, Error> {
+        rows.read_if(rows.has(kind, level), kind, level)
+    }
+}
+
+/// Values as long as the next row is of this kind and level.
+impl<'a, T: Read<'a>> Read<'a> for Vec<T> {
+    fn read(rows: &mut Rows<'a, '_>, kind: u32, level: u32) -> Result<Self, Error> {
         let mut found = Vec::new();
-        while self.has(kind, level) {
+        while rows.has(kind, level) {
             found.try_reserve(1)?;
-            found.push(make(self)?);
+            found.push(rows.read(kind, level)?);
         }
         Ok(found)
     }
+}
 
-    /// Takes each row of this kind and level that comes next.
-    pub(crate) fn each(&mut self, kind: u32, level: u32) -> Result<Vec<&'a [u8]>, Error> {
-        self.all(kind, level, |rows| Ok(rows.take(kind, level)))
-    }
-
-    /// Returns the octets of an OCTET STRING, of all its segments. There has to be at least one.
-    pub(crate) fn string(&mut self, kind: u32, level: u32) -> Result<Cow<'a, [u8]>, Error> {
-        let first = self.take(kind, level);
-        let others = self.each(kind, level)?;
+/// The octets of an OCTET STRING, of all its segments.
+impl<'a> Read<'a> for Cow<'a, [u8]> {
+    fn read(rows: &mut Rows<'a, '_>, kind: u32, level: u32) -> Result<Self, Error> {
+        let first = rows.take(kind, level);
+        let others: Vec<&[u8]> = rows.read(kind, level)?;
         if others.is_empty() {
             return Ok(Cow::Borrowed(first));
         }
@@ -73,24 +99,36 @@ impl<'a, 'r> Rows<'a, 'r> {
         others.iter().for_each(|it| joined.extend_from_slice(it));
         Ok(Cow::Owned(joined))
     }
+}
 
-    /// Returns the octets of an OCTET STRING; none if the next row is of another kind or level.
-    pub(crate) fn optional_string(&mut self, kind: u32, level: u32) -> Result<Option<Cow<'a, [u8]>>, Error> {
-        self.has(kind, level).then(|| self.string(kind, level)).transpose()
-    }
+/// What is read from one row.
+macro_rules! read_from_octets {
+    ($($what:ty, $made:expr;)*) => {
+        $(impl<'a> Read<'a> for $what {
+            fn read(rows: &mut Rows<'a, '_>, kind: u32, level: u32) -> Result<Self, Error> {
+                Ok($made(rows.take(kind, level)))
+            }
+        })*
+    };
+}
 
-    /// Returns an INTEGER.
-    pub(crate) fn integer(&mut self, kind: u32, level: u32) -> Integer<'a> {
-        Integer::new(self.take(kind, level))
-    }
+read_from_octets! {
+    &'a [u8], std::convert::identity;
+    Integer<'a>, Integer::new;
+    Oid<'a>, Oid::new;
+    NamedBits<'a>, NamedBits::new;
+    GeneralizedTime<'a>, GeneralizedTime::new;
+    u16, thousandths;
+}
 
-    /// Returns an INTEGER; none if the next row is of another kind or level.
-    pub(crate) fn optional_integer(&mut self, kind: u32, level: u32) -> Option<Integer<'a>> {
-        self.optional(kind, level).map(Integer::new)
-    }
+fn thousandths(contents: &[u8]) -> u16 {
+    let number = Integer::new(contents).to_u64();
+    number.and_then(|it| it.try_into().ok()).expect("a number from 1 to 999")
+}
 
-    /// Returns an OBJECT IDENTIFIER.
-    pub(crate) fn oid(&mut self, kind: u32, level: u32) -> Oid<'a> {
-        Oid::new(self.take(kind, level))
+/// A BOOLEAN that is false if it is absent.
+impl<'a> Read<'a> for bool {
+    fn read(rows: &mut Rows<'a, '_>, kind: u32, level: u32) -> Result<Self, Error> {
+        Ok(rows.optional(kind, level).is_some())
     }
 }

@@ -1,12 +1,13 @@
+// scripts/generate writes this file from bindings/records.toml.
 package cmscanon;
 
 import java.math.BigInteger;
 
 /**
- * By how much a time may be off (RFC 3161, section 2.4.2): the sum of these.
+ * By how much the time of a token may be off (RFC 3161, section 2.4.2): the sum of what is not absent.
  *
- * @param seconds any INTEGER; null if it is absent
- * @param millis milliseconds, from 1 to 999; null if it is absent
- * @param micros microseconds, from 1 to 999; null if it is absent
+ * @param seconds whole seconds, any INTEGER; null if they are absent
+ * @param millis milliseconds, from 1 to 999; null if they are absent
+ * @param micros microseconds, from 1 to 999; null if they are absent
  */
 public record Accuracy(BigInteger seconds, Integer millis, Integer micros) {}

@@ -28,6 +28,8 @@ public record Message(MessageKind kind, SignedData signedData, TimeStampReq requ
         Objects.requireNonNull(kind);
     }
 
+    // What is in a SignedData: scripts/generate writes this from bindings/records.toml.
+
     /** {@return {@link SignedData#version}} */
     public BigInteger version() {
         return signedData == null ? null : signedData.version();
@@ -62,6 +64,8 @@ public record Message(MessageKind kind, SignedData signedData, TimeStampReq requ
     public List<SignerInfo> signers() {
         return signedData == null ? List.of() : signedData.signers();
     }
+
+    // The end of what is in a SignedData.
 
     /**
      * {@return {@link SignedData#tstInfo}}

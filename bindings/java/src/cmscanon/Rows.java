@@ -5,13 +5,17 @@ import java.math.BigInteger;
 import java.util.ArrayList;
 import java.util.List;
 import java.util.Objects;
-import java.util.function.Supplier;
 
 /**
  * The rows of a message, which are taken in their order. A row that is not the one asked for is a fault of the library, and an
  * {@link IllegalStateException}.
  */
 final class Rows {
+    /** What reads a value, whose first row has to be of this kind and level. */
+    interface Reading<T> {
+        T read(int kind, int level);
+    }
+
     /** The words of 64 bits that a row has: start; length; kind, and the level in the upper half. */
     static final int WORDS = 3;
 
@@ -57,23 +61,31 @@ final class Rows {
         return comes;
     }
 
-    /** The octets of the next row; null if it is of another kind or level. */
-    Octets optional(int kind, int level) {
-        return has(kind, level) ? take(kind, level) : null;
+    /** The octets of the next row, which is not taken; null if it is of another kind or level. */
+    Octets peek(int kind, int level) {
+        int before = next;
+        Octets found = has(kind, level) ? take(kind, level) : null;
+        next = before;
+        return found;
     }
 
-    /** What is made of rows as long as the next one is of this kind and level. */
-    <T> List<T> all(int kind, int level, Supplier<T> made) {
+    /** What is read as long as the next row is of this kind and level. */
+    <T> List<T> all(int kind, int level, Reading<T> reading) {
         List<T> found = new ArrayList<>();
         while (has(kind, level)) {
-            found.add(made.get());
+            found.add(reading.read(kind, level));
         }
         return found;
     }
 
-    /** The octets of each row of this kind and level that comes next. */
-    List<Octets> each(int kind, int level) {
-        return all(kind, level, () -> take(kind, level));
+    /** What is read from rows of a kind, the member's, one level below the next row; null if that is of another kind or level. */
+    <T> List<T> below(int kind, int level, int member, Reading<T> reading) {
+        return takesHead(kind, level) ? all(member, level + 1, reading) : null;
+    }
+
+    /** A list; an empty one for null. */
+    static <T> List<T> orEmpty(List<T> list) {
+        return list == null ? List.of() : list;
     }
 
     /** The octets of an OCTET STRING, of all its segments. */
@@ -84,7 +96,7 @@ final class Rows {
         }
         ByteArrayOutputStream joined = new ByteArrayOutputStream();
         joined.writeBytes(first.toArray());
-        each(kind, level).forEach(it -> joined.writeBytes(it.toArray()));
+        all(kind, level, this::take).forEach(it -> joined.writeBytes(it.toArray()));
         return new Octets(joined.toByteArray(), 0, joined.size());
     }
 
@@ -93,13 +105,23 @@ final class Rows {
         return new BigInteger(take(kind, level).toArray());
     }
 
-    /** An INTEGER; null if the next row is of another kind or level. */
-    BigInteger optionalInteger(int kind, int level) {
-        return has(kind, level) ? integer(kind, level) : null;
+    /** An INTEGER from 1 to 999. */
+    int thousandths(int kind, int level) {
+        return integer(kind, level).intValueExact();
     }
 
     /** The text of an OBJECT IDENTIFIER. */
     String oid(int kind, int level) {
         return ObjectIdentifiers.dotted(take(kind, level).toArray());
+    }
+
+    /** A BIT STRING with named bits. */
+    NamedBits namedBits(int kind, int level) {
+        return new NamedBits(take(kind, level));
+    }
+
+    /** A GeneralizedTime. */
+    GeneralizedTime time(int kind, int level) {
+        return new GeneralizedTime(take(kind, level).toAscii());
     }
 }

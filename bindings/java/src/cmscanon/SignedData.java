@@ -1,3 +1,4 @@
+// scripts/generate writes this file from bindings/records.toml, but for its end.
 package cmscanon;
 
 import java.math.BigInteger;
@@ -5,16 +6,16 @@ import java.util.List;
 import java.util.Objects;
 
 /**
- * SignedData (RFC 5652, section 5.1).
+ * A SignedData (RFC 5652, section 5.1).
  *
- * @param version any INTEGER
- * @param digestAlgorithms in the order read
- * @param contentType eContentType, as {@link AlgorithmIdentifier#oid}
- * @param content eContent; null if it is detached
- * @param certificates in the order read, each one element: a Certificate (RFC 5280) if it begins with 30; null if the field is
- *     absent, which is not the same as an empty one
- * @param crls the revocation information in the order read, each one element: a CertificateList (RFC 5280) if it begins with 30; null
- *     if the field is absent
+ * @param version any INTEGER, as received. Whether it fits the rest is a finding of {@code check}, F1
+ * @param digestAlgorithms digestAlgorithms in the order read
+ * @param contentType eContentType, as {@code 1.2.840.113549.1.7.1}; written as {@link AlgorithmIdentifier#oid}
+ * @param content eContent, where it lies in what was read, or a copy if it came in several segments; null if it is detached
+ * @param certificates the certificates in the order read, each one element: a Certificate (RFC 5280) if it begins with 30; null if
+ *     the field is absent, which is not the same as an empty one
+ * @param crls the revocation information in the order read, each one element: a CertificateList (RFC 5280) if it begins with 30;
+ *     null if the field is absent
  * @param signers signerInfos in the order read
  */
 public record SignedData(
@@ -25,8 +26,6 @@ public record SignedData(
         List<Octets> certificates,
         List<Octets> crls,
         List<SignerInfo> signers) {
-    private static final String TST_INFO = "1.2.840.113549.1.9.16.1.4"; // id-ct-TSTInfo (RFC 3161, section 2.4.2)
-
     /**
      * Copies the lists. Refuses null for what is never absent.
      *
@@ -46,6 +45,9 @@ public record SignedData(
         crls = crls == null ? null : List.copyOf(crls);
         signers = List.copyOf(signers);
     }
+
+    // What follows is written by hand.
+    private static final String TST_INFO = "1.2.840.113549.1.9.16.1.4"; // id-ct-TSTInfo (RFC 3161, section 2.4.2)
 
     /**
      * {@return what the token says; null if this is no time-stamp token, or if its content is detached}

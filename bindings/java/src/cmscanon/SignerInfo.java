@@ -1,3 +1,4 @@
+// scripts/generate writes this file from bindings/records.toml, but for its end.
 package cmscanon;
 
 import java.math.BigInteger;
@@ -5,19 +6,19 @@ import java.util.List;
 import java.util.Objects;
 
 /**
- * A signer of a message, or a countersignature (RFC 5652, sections 5.3 and 11.4), as it was received.
+ * A signer of a message, or a countersignature, as it was received (RFC 5652, sections 5.3 and 11.4).
  *
- * @param version any INTEGER
+ * @param version any INTEGER, as received. Whether it fits the rest is a finding of {@code check}, F2
  * @param issuer the name of the issuer of the signer's certificate, one element; null if the signer is named by a key identifier
  * @param serialNumber the serial number of the signer's certificate; null if the signer is named by a key identifier
  * @param subjectKeyIdentifier the key identifier of the signer's certificate; null if the signer is named by issuer and serial
  *     number
- * @param digestAlgorithm the algorithm that the content and the signed attributes are digested with
- * @param signedAttributes in the order read; empty if they are absent
+ * @param digestAlgorithm digestAlgorithm: the algorithm that the content and the signed attributes are digested with
+ * @param signedAttributes signedAttrs in the order read; empty if they are absent
  * @param signedAttributesElement signedAttrs, one element, which begins with A0; null if they are absent
- * @param signatureAlgorithm the algorithm of the signature
+ * @param signatureAlgorithm signatureAlgorithm: the algorithm of the signature
  * @param signature the octets of the signature
- * @param unsignedAttributes in the order read; empty if they are absent
+ * @param unsignedAttributes unsignedAttrs in the order read; empty if they are absent
  * @param content what is signed: the content of the message, null if it is detached; of a countersignature the octets of the
  *     signature that it signs
  */
@@ -33,8 +34,6 @@ public record SignerInfo(
         Octets signature,
         List<Attribute> unsignedAttributes,
         Octets content) {
-    private static final byte SET_OF = 0x31;
-
     /**
      * Copies the lists. Refuses null for what is never absent.
      *
@@ -58,6 +57,9 @@ public record SignerInfo(
         signedAttributes = List.copyOf(signedAttributes);
         unsignedAttributes = List.copyOf(unsignedAttributes);
     }
+
+    // What follows is written by hand.
+    private static final byte SET_OF = 0x31;
 
     /** {@return the countersignatures of the signer, of all its countersignature attributes, in the order read} */
     public List<SignerInfo> countersignatures() {
