@@ -149,7 +149,8 @@ def help_of(command: Command) -> Callable[[], Iterable[str]]:
 
 
 def help_of_options() -> Iterator[str]:
-    yield from (f'pub(crate) const {name.upper()}: &str = "{about}";' for name, about in OPTIONS.items())
+    for name, about in OPTIONS.items():
+        yield from (f'pub(crate) const {name.upper()}: &str = "{about}";', "")
 
 
 def escaped(word: str) -> str:

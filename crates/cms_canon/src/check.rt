@@ -17,8 +17,8 @@ use crate::digested::digests_from;
 use crate::message::{Message, View};
 use crate::rest::read_rest;
 use cms_check::{
-    Digests, Given, GivenDigests, HashAlg, NoReport, NoVerifier, Report, Verifier,
-    check_digests, check_request, check_request_digests, check_response, check_response_digests,
+    Digests, Given, GivenDigests, HashAlg, NoReport, NoVerifier, Report, Verifier, check_digests,
+    check_request, check_request_digests, check_response, check_response_digests,
 };
 use cms_tlv::{Fault, Input};
 use std::alloc::{AllocError, Global};

@@ -10,7 +10,9 @@ use crate::check::check;
 use crate::compare::compare;
 use crate::show::show;
 use crate::task::{NoTask, Task, task_of};
-use cms_canon::{Many, ManyFault, NoCover, SameFault, Tail, canonicalise, canonicalise_many, write_cover};
+use cms_canon::{
+    Many, ManyFault, NoCover, SameFault, Tail, canonicalise, canonicalise_many, write_cover,
+};
 use cms_tlv::{Fault, Input, Output, pour};
 use std::alloc::Global;
 use std::convert::AsStr;

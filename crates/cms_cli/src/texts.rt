@@ -38,9 +38,13 @@ of all commands, and `cms-canon help COMMAND` explains each command.";
 
 // scripts/generate writes this from docs/texts/commands.toml.
 pub(crate) const SIGNER: &str = "The number of the signer, in the order read, from 0";
+
 pub(crate) const MANY: &str = "Read messages to the end of the input, and write the DER of each";
+
 pub(crate) const CONTENT: &str = "Take what follows the message as its content";
+
 pub(crate) const DATA: &str = "Take what follows the message as the time-stamped data";
+
 // The end of the options.
 
 pub(crate) const CONVERT: Help = Help {

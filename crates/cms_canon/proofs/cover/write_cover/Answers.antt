@@ -1,14 +1,8 @@
-use Rattle.std.proofs.Common.{◌≡◌, Result, Ok, Err, IfOk, IfErr, option_map, ap, subst}
+use Rattle.std.proofs.Common.{option_map, ap}
 use Rattle.std.proofs.lemmas.Result.{IfOk-at_ok, IfErr-at_err}
 use Rattle.cms_canon.proofs.CoverFaults.{is_poured, not_poured, not_given}
 use Rattle.cms_canon.proofs.cover.write_cover.Goals as goal
 use Rattle.cms_canon.proofs.cover.write_cover.Goals.{in-Ok+in-Some-1, in-Ok+in-None-1, in-Err}
-
-IfOk-at_ok : : Type 0} (P : T → Type 0) (x : T) (r : Result T E) → r ≡ Ok x → IfOk r P → P x
-IfOk-at_ok P e h = subst (λ z. IfOk z P) e h
-
-IfErr-at_err : : Type 0} (P : E → Type 0) (x : E) (r : Result T E) → r ≡ Err x → IfErr r P → P x
-IfErr-at_err P e h = subst (λ z. IfErr z P) e h
 
 pub returns-clause-ok : goal.returns-clause-ok
 returns-clause-ok g c = elim c.match-given.branch [
