@@ -49,7 +49,7 @@ class Cluster:
     def __init__(self, address: str) -> None:
         """Raises `ModuleNotFoundError` if distributed is not installed, and `ValueError` for an address that is none."""
         import dask
-        from distributed.comm import parse_address
+        from distributed.comm.addressing import parse_address
 
         parse_address(address)
         dask.config.set({"distributed.scheduler.pickle": False})  # of messages that this process gets
@@ -107,7 +107,8 @@ class Cluster:
         from distributed.comm.core import connect
         from distributed.security import Security
 
-        comm = await connect(self._address, timeout=SECONDS, deserialize=False, **Security().get_connection_args("client"))
+        how = Security().get_connection_args("client")  # type: ignore[no-untyped-call]  # distributed has types of some functions alone
+        comm = await connect(self._address, timeout=SECONDS, deserialize=False, **how)  # type: ignore[no-untyped-call]  # likewise
         try:
             await comm.write({**message, "reply": True})
             return await comm.read()

@@ -482,8 +482,15 @@ def changed_command(url: str, wait: Optional[float], form: Optional[str]) -> Non
 @_json
 def show_command(file: str, form: Optional[str]) -> None:
     """List what is in the messages of FILE, whatever it keeps them in."""
-    show = (lambda der: cms_canon.read(der).to_json()) if form == "json" else cms_canon.show
-    _report_each(exporting.shown_in(file, show), form)
+    _report_each(exporting.shown_in(file, _fields_in_json if form == "json" else _listing), form)
+
+
+def _fields_in_json(der: bytes) -> str:
+    return cms_canon.read(der).to_json()
+
+
+def _listing(der: bytes) -> str:
+    return cms_canon.show(der)
 
 
 @main.command("convert")
@@ -571,7 +578,7 @@ def verify_store_command(sample: Optional[int], url: str, wait: Optional[float],
 def _says_what_is_left(watch: Watch) -> bool:
     """Says how many parts are yet to be read, and returns whether there are any."""
     state = watch.asked(state_of)
-    left = state.to_do + state.taken
+    left = int(state.to_do + state.taken)
     if left:
         click.echo(f"{left} parts are yet to be read, and are not compared: `index` goes on with them", err=True)
     return left > 0

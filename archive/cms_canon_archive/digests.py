@@ -21,7 +21,7 @@ from .store import Store
 from .tables import PARTS, PATH, PLACES
 
 if TYPE_CHECKING:
-    from numpy import ndarray
+    from numpy.typing import NDArray
 
 FORM = 1  # the version of the files
 AT_ONCE = 50_000  # rows that are written at once
@@ -58,7 +58,7 @@ def write(store: Store, folder: Path) -> int:
                 octets = numpy.frombuffer(b"".join(digests), dtype=numpy.uint8).reshape(-1, 32)
                 lines = [f"{it}\n".encode() for it in some]
                 lengths = numpy.array([len(it) for it in lines], dtype=numpy.uint64)
-                places = at + numpy.concatenate(([0], numpy.cumsum(lengths)[:-1])).astype(numpy.uint64)
+                places = at + numpy.concatenate((numpy.zeros(1, numpy.uint64), numpy.cumsum(lengths)[:-1]))
                 rows.write(numpy.hstack((octets, _octets(numpy, places))).tobytes())
                 names.write(b"".join(lines))
                 numbers = numpy.arange(count, count + len(lines), dtype=numpy.uint64)
@@ -87,13 +87,13 @@ def _digests_of(store: Store) -> Iterator[Tuple[List[bytes], List[str]]]:
         yield digests, names
 
 
-def _octets(numpy: Any, numbers: ndarray) -> ndarray:
+def _octets(numpy: Any, numbers: NDArray[Any]) -> NDArray[Any]:
     """Returns numbers as 8 octets each, the first one first."""
-    octets: ndarray = numbers.astype(">u8").view(numpy.uint8).reshape(-1, _NUMBER)
+    octets: NDArray[Any] = numbers.astype(">u8").view(numpy.uint8).reshape(-1, _NUMBER)
     return octets
 
 
-def _put_in_buckets(numpy: Any, buckets: Sequence[BinaryIO], octets: ndarray, numbers: ndarray) -> None:
+def _put_in_buckets(numpy: Any, buckets: Sequence[BinaryIO], octets: NDArray[Any], numbers: NDArray[Any]) -> None:
     order = numpy.argsort(octets[:, 0], kind="stable")
     records = numpy.hstack((octets[:, 1 : 1 + _KEY], _octets(numpy, numbers)))[order]
     ends = numpy.cumsum(numpy.bincount(octets[:, 0], minlength=_BUCKETS))
@@ -117,14 +117,14 @@ class _Folder:
             raise NoDigests(f"{folder}: there are no digests of `digests --to`, or not all of them")
         if not isinstance(about, dict) or about.get("form") != FORM:
             raise NoDigests(f"{folder}: the digests are of another release")
-        self._count = about.get("rows")
-        records = sum(size for name, size in sizes.items() if len(name) == 2)
-        if records != self._count * (_KEY + _NUMBER) or sizes["rows"] != self._count * _ROW or sizes["names"] != about.get("names"):
+        count, records = about.get("rows"), sum(size for name, size in sizes.items() if len(name) == 2)
+        if not isinstance(count, int) or (records, sizes["rows"], sizes["names"]) != (count * (_KEY + _NUMBER), count * _ROW, about.get("names")):
             raise NoDigests(f"{folder}: the digests are not whole")
+        self._count = count
         self._path = folder
         self._rows, self._names = (os.open(folder / it, os.O_RDONLY | os.O_CLOEXEC) for it in ("rows", "names"))
 
-    def bucket(self, numpy: Any, number: int) -> Tuple[ndarray, ndarray]:
+    def bucket(self, numpy: Any, number: int) -> Tuple[NDArray[Any], NDArray[Any]]:
         """Returns the keys and the numbers in one of the files."""
         records = numpy.fromfile(self._path / f"{number:02x}", dtype=numpy.dtype([("key", ">u8"), ("number", ">u8")]))
         return records["key"].astype(numpy.uint64), records["number"].astype(numpy.uint64)

@@ -31,11 +31,11 @@ REFUSED = "the store refused what was read of it"
 class Listing(NamedTuple):
     """What is in a folder."""
 
-    files: Dict[str, os.DirEntry]
+    files: Dict[str, os.DirEntry[str]]
     """The files of one chunk by the texts of their names, in the order of these."""
     folders: List[str]
     """The names of the folders."""
-    count: int
+    total: int
     """How many files there are in all chunks."""
     names: Optional[AbstractSet[str]]
     """The names of all that there is, if the folder is one chunk."""
@@ -82,7 +82,7 @@ def texts_of_folder(folder: str) -> Tuple[str, Optional[str]]:
 
 def listed(path: str, chunk: int, chunks: int) -> Listing:
     """Lists a folder. Symbolic links, and what is neither file nor folder, are left out."""
-    files: Dict[str, os.DirEntry] = {}
+    files: Dict[str, os.DirEntry[str]] = {}
     folders: List[str] = []
     names: Optional[Set[str]] = set() if chunks == 1 else None
     count = 0
@@ -182,7 +182,7 @@ class Reader:
         part = outcome.part
         stored = self._known.get(part.id, {})
         listing = listed(path, part.chunk, part.chunks)
-        if part.chunk == 0 and (chunks := chunks_for(listing.count, part.chunks)) != part.chunks:
+        if part.chunk == 0 and (chunks := chunks_for(listing.total, part.chunks)) != part.chunks:
             outcome.chunks = chunks
             listing = listed(path, 0, chunks)
         others = range(1, outcome.chunks) if part.chunk == 0 else ()  # which are added again, should a worker have lost one
@@ -233,7 +233,7 @@ def _same_for(part: Held) -> Callable[[Optional[Known], Entry], bool]:
     return lambda known, entry: known is not None and known[4] and known[:4] == entry[1:]
 
 
-def _is_large(file: os.DirEntry) -> bool:
+def _is_large(file: os.DirEntry[str]) -> bool:
     try:
         return file.stat(follow_symlinks=False).st_size > LARGE
     except OSError:

@@ -351,7 +351,7 @@ def _findings(octets: bytes, message: cms_canon.Message, content: Optional[Conte
     else:
         if content.length > cms_canon.LIMIT and message.content is None and NAMES.get(message.content_type or "") == _TOKEN:
             raise Ended(f"not read as a TSTInfo, which has at most {cms_canon.LIMIT:,} octets here")
-        given = b"".join(content.pieces) if content.length <= SMALL else content.pieces
+        given: cms_canon.Document = b"".join(content.pieces) if content.length <= SMALL else content.pieces
         try:
             found = cms_canon.check(octets, None if is_stamped else given, given if is_stamped else None)
         except ValueError as why:  # also `Refused` by E2, of a TSTInfo that is longer than was said: the message itself was read before
@@ -386,7 +386,7 @@ def _verified(octets: bytes, message: cms_canon.Message, content: Optional[Conte
     found = [it for it in cms_canon.check(octets, content=given, verifier=verifier.by_certificates()) if it.code in _VERDICTS]
     not_right = {it.signer for it in found}
     wrong = frozenset(it.signer for it in found if it.code == _F17 and it.signer in own)
-    return _Verified(_VERDICTS[min(it.code for it in found)] if found else "right", own - not_right, wrong)
+    return _Verified(_VERDICTS[min(it.code for it in found)] if found else "right", frozenset(it for it in own if it not in not_right), wrong)
 
 
 # ---- the state

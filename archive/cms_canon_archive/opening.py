@@ -34,7 +34,7 @@ def url_of(name: str) -> sa.engine.URL:
 def without_password(url: sa.engine.URL) -> str:
     """Returns a URL without its password, or whatever else is after a question mark."""
     bare = sa.engine.URL.create(url.drivername, url.username, None, url.host, url.port, url.database)
-    return bare.render_as_string(hide_password=True)
+    return str(bare.render_as_string(hide_password=True))
 
 
 _WITH_NO_SECRET = ("host", "port", "service", "sslmode", "sslrootcert", "sslcert", "sslkey", "target_session_attrs")
@@ -44,12 +44,12 @@ def for_others(url: sa.engine.URL) -> str:
     """Returns the URL by which workers elsewhere find the store. Each has its password in a file of its own."""
     bare = sa.engine.URL.create(url.drivername, url.username, None, url.host, url.port, url.database)
     query = {name: value for name, value in url.query.items() if name in _WITH_NO_SECRET}
-    return bare.update_query_dict(query).render_as_string(hide_password=True)
+    return str(bare.update_query_dict(query).render_as_string(hide_password=True))
 
 
 def is_sqlite(url: sa.engine.URL) -> bool:
     """Whether the store is a file of this machine."""
-    return url.get_backend_name() == "sqlite"
+    return bool(url.get_backend_name() == "sqlite")
 
 
 def own_files(url: sa.engine.URL) -> Set[str]:

@@ -4,7 +4,7 @@ from __future__ import annotations
 
 import io
 import re
-from typing import Dict
+from typing import Any, Dict
 
 import matplotlib
 from markupsafe import Markup, escape
@@ -16,7 +16,7 @@ from .texts import size_of
 MOST_BARS = 60  # of a plot of years: if there are more, a bar is a decade or a century
 _BAR, _LINE = "#010203", "#040506"  # placeholders for the colours of the page
 _COLOURS = {_BAR: "var(--bar)", _LINE: "var(--line)", "#000000": "currentColor"}
-_SETTINGS = {"svg.fonttype": "none", "font.size": 11}
+_SETTINGS: Dict[str, Any] = {"svg.fonttype": "none", "font.size": 11}
 _NO_METADATA = dict.fromkeys(("Creator", "Date", "Format", "Type"))
 
 
@@ -27,8 +27,9 @@ def _in_the_page(drawn: str, name: str, about: str) -> Markup:
     drawn = re.sub(r'\bid="|(?<=xlink:href="#)|(?<=url\(#)', lambda found: f"{found[0]}{name}-", drawn)
     for drawn_in, shown_in in _COLOURS.items():
         drawn = drawn.replace(drawn_in, shown_in)
-    view = re.search(r'viewBox="[^"]*"', drawn)[0]
-    return Markup(f'<svg {view} role="img" aria-label="{escape(about)}">{drawn[drawn.index(">") + 1 :].strip()}')
+    view = re.search(r'viewBox="[^"]*"', drawn)
+    assert view is not None  # Matplotlib writes one
+    return Markup(f'<svg {view[0]} role="img" aria-label="{escape(about)}">{drawn[drawn.index(">") + 1 :].strip()}')
 
 
 def _plot(bars: Dict[int, int], ticks: Dict[float, str], name: str, about: str) -> Markup:

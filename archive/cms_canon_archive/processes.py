@@ -117,7 +117,7 @@ class Processes:
 
     def __init__(self, jobs: int, work: Callable[[], None], line_of: Callable[[Exception], Optional[str]], patience: float) -> None:
         """`line_of` says an error in a line; it is a fault of the program if it says nothing. `patience` is in seconds."""
-        self._begin = lambda: _Process(work, line_of)
+        self._begin: Callable[[], _Process] = lambda: _Process(work, line_of)
         self._jobs = jobs
         self._patience = patience
         self._deaths = 0

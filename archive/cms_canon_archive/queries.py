@@ -5,6 +5,7 @@ from __future__ import annotations
 from collections import Counter
 from enum import Enum
 from itertools import groupby
+from operator import itemgetter
 from typing import Any, Iterator, List, NamedTuple
 
 import sqlalchemy as sa
@@ -40,7 +41,7 @@ def duplicates(store: Store) -> Iterator[Group]:
     """Gives the messages that more than one file is."""
     twice = sa.select(FILES.c.digest).where(FILES.c.digest.is_not(None)).group_by(FILES.c.digest).having(sa.func.count() > 1)
     rows = store.rows(FILES.c.digest.in_(twice), order=(FILES.c.digest, FILES.c.path, FILES.c.member))
-    for digest, some in groupby(rows, key=lambda row: row["digest"]):
+    for digest, some in groupby(rows, key=itemgetter("digest")):
         yield Group(str(digest), [name_of(row) for row in some])
 
 

@@ -162,11 +162,11 @@ def _metered(found: Found, path: str, left: List[int]) -> Found:
 # ---- rows
 
 
-def _value(value: Any) -> Value:
-    if value is None or value == "":
-        return value
+def _value(value: Union[Value, Enum]) -> Value:
+    if value is None:
+        return None
     if type(value) is str:
-        return text_of(value)
+        return text_of(value) if value else value
     return str(value.value) if isinstance(value, Enum) else value
 
 

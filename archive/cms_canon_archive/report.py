@@ -103,7 +103,7 @@ class Table(NamedTuple):
     name: str
     caption: str
     columns: Sequence[Column]
-    rows: List[Sequence[Any]]
+    rows: Sequence[Sequence[Any]]
 
     @property
     def csv(self) -> str:
@@ -179,8 +179,9 @@ def with_commands(text: str) -> Markup:
 
 def page_of(summary: Summary, store: str, made: Optional[datetime] = None) -> str:
     """Returns the page for a summary of a store."""
-    settings = {"trim_blocks": True, "lstrip_blocks": True, "keep_trailing_newline": True}
-    environment = jinja2.Environment(autoescape=True, undefined=jinja2.StrictUndefined, **settings)
+    environment = jinja2.Environment(
+        autoescape=True, undefined=jinja2.StrictUndefined, trim_blocks=True, lstrip_blocks=True, keep_trailing_newline=True,
+    )
     environment.filters.update(shown=shown, size=size_of, with_commands=with_commands, number="{:,}".format)
     return environment.from_string(TEMPLATE.read_text(encoding="utf-8")).render(
         summary=summary,

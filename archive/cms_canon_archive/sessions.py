@@ -212,7 +212,7 @@ class Session:
         if self.number:
             try:
                 with self.transaction() as connection:
-                    values = {"ended": int(time.time()), "seen": int(time.time()), **({"note": why} if why else {})}
+                    values: Dict[str, Any] = {"ended": int(time.time()), "seen": int(time.time()), **({"note": why} if why else {})}
                     connection.execute(sa.update(WORKERS).where(WORKERS.c.id == self.number).values(**values))
             except Exception:  # of a session that is lost already
                 pass
@@ -324,7 +324,7 @@ class Session:
         asked = sa.select(*columns).where(own.part.in_(ids), own.member == "")
         of_many = [it.id for it in parts if it.is_stored and (it.anew or it.name == "")]
         with self._reading() as connection:
-            for part, name, *rest in map(tuple, connection.execute(asked).all()):
+            for part, name, *rest in connection.execute(asked).all():
                 known[part][name] = Known._make(rest)
             for table in OF_PARTS if of_many else ():
                 for part, name in connection.execute(_without_own_row(table, of_many)):

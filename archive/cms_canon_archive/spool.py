@@ -10,7 +10,7 @@ import io
 import pickle
 import tempfile
 from operator import itemgetter
-from typing import Any, BinaryIO, Callable, Dict, Iterable, Iterator, List, Optional, Tuple
+from typing import IO, Any, Callable, Dict, Iterable, Iterator, List, Optional, Tuple
 
 import sqlalchemy as sa
 from sqlalchemy.exc import DBAPIError
@@ -33,7 +33,7 @@ class Spool:
         self._rows: Dict[sa.Table, List[Values]] = {PLACES: [], **{it: [] for it in LISTS.values()}}
         self._tables = list(self._rows)
         self._in_memory = 0
-        self._file: Optional[BinaryIO] = None
+        self._file: Optional[IO[bytes]] = None
 
     def add(self, part: int, file: str, row: Row) -> None:
         """Adds a row, with its signers and times, under the name of its file."""

@@ -227,7 +227,7 @@ class Store:
                 part, file = keys[path]
                 for table in OF_PARTS:
                     connection.execute(sa.delete(table).where(table.c.part == part, table.c.file == file))
-            placed = [{**row, "part": keys[row["path"]][0], "file": keys[row["path"]][1], "worker": None} for row in rows]
+            placed: List[Row] = [{**row, "part": keys[row["path"]][0], "file": keys[row["path"]][1], "worker": None} for row in rows]
             self._insert(connection, PLACES, placed)
             for name, table in LISTS.items():
                 self._insert(connection, table, [{**it, **{key: row[key] for key in ("part", "file", "member")}} for row in placed for it in row[name]])

@@ -215,19 +215,19 @@ def _duplicates_of(connection: Any) -> Duplicates:
     columns = (FILES.c.digest, sa.func.count().label("files"), spare_octets.label("spare_octets"))
     groups = sa.select(*columns).where(FILES.c.digest.is_not(None)).group_by(FILES.c.digest).having(sa.func.count() > 1).subquery()
     totals = sa.select(sa.func.count(), sa.func.sum(groups.c.files - 1), sa.func.sum(groups.c.spare_octets))
-    messages, *spare = connection.execute(totals.select_from(groups)).one()
+    messages, files, octets = connection.execute(totals.select_from(groups)).one()
     order = (groups.c.files.desc(), groups.c.spare_octets.desc(), groups.c.digest)
     largest = connection.execute(sa.select(groups).order_by(*order).limit(LARGEST)).all()
     first = _first_of(connection, FILES.c.digest, FILES.c.digest.in_([row.digest for row in largest]))
     copies = [Copies(row.digest, row.files, int(row.spare_octets), first[row.digest]) for row in largest]
-    return Duplicates(messages, *(int(it or 0) for it in spare), copies)
+    return Duplicates(messages, int(files or 0), int(octets or 0), copies)
 
 
 def _algorithms_of(connection: Any) -> List[Algorithm]:
     key = (SIGNERS.c.digest, SIGNERS.c.signature, SIGNERS.c.key, SIGNERS.c.bits)
     weak = sa.func.max(sa.case((is_weak(), 1), else_=0))
     asked = sa.select(*key, sa.func.count(), weak).group_by(*key).order_by(sa.func.count().desc(), *key).limit(MOST_LINES)
-    return [Algorithm(*row[:5], bool(row[5])) for row in connection.execute(asked)]
+    return [Algorithm._make((*row[:5], bool(row[5]))) for row in connection.execute(asked)]
 
 
 def _digest_years_of(connection: Any) -> List[Tuple[str, str, int]]:

@@ -43,7 +43,7 @@ class PartState(IntEnum):
 # ---- what a column takes
 
 
-class Digest(sa.TypeDecorator):  # type: ignore[type-arg]
+class Digest(sa.TypeDecorator):  # type: ignore[misc]  # SQLAlchemy 1.4 has no types
     """A SHA-256: 32 octets in the database, 64 hexadecimal digits outside it."""
 
     impl = sa.LargeBinary(32)
@@ -61,7 +61,7 @@ def is_digest(text: str) -> bool:
     return _HEX.fullmatch(text) is not None
 
 
-class _Plain(sa.sql.ColumnElement):  # type: ignore[type-arg]
+class _Plain(sa.sql.ColumnElement):  # type: ignore[misc]  # SQLAlchemy 1.4 has no types
     """Whether texts have no control characters: names have them written out."""
 
     inherit_cache = False
@@ -74,12 +74,12 @@ class _Plain(sa.sql.ColumnElement):  # type: ignore[type-arg]
             self.text = self.text.concat(it)
 
 
-@compiles(_Plain, "postgresql")
+@compiles(_Plain, "postgresql")  # type: ignore[misc]  # likewise
 def _plain_in_postgresql(element: _Plain, compiler: Any, **how: Any) -> str:
     return f"({compiler.process(element.text, **how)}) !~ '[\\u0001-\\u001f\\u007f-\\u009f]'"
 
 
-@compiles(_Plain)
+@compiles(_Plain)  # type: ignore[misc]  # likewise
 def _plain_in_sqlite(element: _Plain, compiler: Any, **how: Any) -> str:
     control = "'*[' || char(1) || '-' || char(31) || char(127) || '-' || char(159) || ']*'"
     return f"({compiler.process(element.text, **how)}) NOT GLOB {control}"
@@ -268,7 +268,7 @@ def _asked_of(name: str, table: sa.Table) -> Any:
 FILES, SIGNERS, TIMES = (_asked_of(*it) for it in (("files", PLACES), ("signers", PLACE_SIGNERS), ("times", PLACE_TIMES)))
 
 
-class _Hexadecimal(sa.sql.ColumnElement):  # type: ignore[type-arg]
+class _Hexadecimal(sa.sql.ColumnElement):  # type: ignore[misc]  # SQLAlchemy 1.4 has no types
     """The digits of a digest, for those who ask the database itself."""
 
     inherit_cache = False
@@ -278,12 +278,12 @@ class _Hexadecimal(sa.sql.ColumnElement):  # type: ignore[type-arg]
         self.column = column
 
 
-@compiles(_Hexadecimal, "postgresql")
+@compiles(_Hexadecimal, "postgresql")  # type: ignore[misc]  # likewise
 def _hexadecimal_in_postgresql(element: _Hexadecimal, compiler: Any, **how: Any) -> str:
     return f"encode({compiler.process(element.column, **how)}, 'hex')"
 
 
-@compiles(_Hexadecimal)
+@compiles(_Hexadecimal)  # type: ignore[misc]  # likewise
 def _hexadecimal_in_sqlite(element: _Hexadecimal, compiler: Any, **how: Any) -> str:
     return f"lower(hex({compiler.process(element.column, **how)}))"
 

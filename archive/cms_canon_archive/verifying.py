@@ -220,7 +220,7 @@ class _Folders:
         return len(chunks) == held.chunks and set(chunks) == {held.chunks}
 
 
-def _newer(file: os.DirEntry, since: Optional[int]) -> str:
+def _newer(file: os.DirEntry[str], since: Optional[int]) -> str:
     """Says whether a file came or was changed after its folder was read, if the worker says when that was."""
     try:
         is_newer = since is not None and file.stat(follow_symlinks=False).st_ctime >= since

@@ -33,7 +33,7 @@ def entry_of(path: str) -> Entry:
     return Entry(path, status.st_size, status.st_ctime_ns, status.st_ino & MOST, _status(beside) if beside else "")
 
 
-def entry_in(file: os.DirEntry, names: Optional[AbstractSet[str]]) -> Entry:
+def entry_in(file: os.DirEntry[str], names: Optional[AbstractSet[str]]) -> Entry:
     """Returns a file of a folder that was listed, as it was then. `names` are all that the folder has, if they are known."""
     try:
         status = file.stat(follow_symlinks=False)

@@ -97,8 +97,8 @@ def _count(connection: sa.engine.Connection, where: Any) -> int:
 
 def state_of(connection: sa.engine.Connection) -> State:
     """Returns where the index is."""
-    parts = [_count(connection, it) for it in (IS_TO_DO, IS_TAKEN, IS_GIVEN_UP)]
-    return State(counts_in(connection), *parts, _sessions(connection))
+    to_do, taken, given_up = (_count(connection, it) for it in (IS_TO_DO, IS_TAKEN, IS_GIVEN_UP))
+    return State(counts_in(connection), to_do, taken, given_up, _sessions(connection))
 
 
 def _sessions(connection: sa.engine.Connection) -> int:
@@ -124,10 +124,9 @@ def workers_of(connection: sa.engine.Connection, is_all: bool = False) -> Iterat
 def _plain(it: WorkerState) -> WorkerState:
     """Returns the same without what no worker that works would say: times before 1970 or to come, and a note that is long."""
     latest = int(time.time()) + DAY
-    said = {"began": it.began, "seen": it.seen, "since": it.since}
-    times = {name: value if value is not None and 0 <= value <= latest else None for name, value in said.items()}
+    began, seen, since = (time if time is not None and 0 <= time <= latest else None for time in (it.began, it.seen, it.since))
     is_long = it.note is not None and len(it.note) > MOST_OF_A_NOTE
-    return it._replace(note=f"{str(it.note)[:MOST_OF_A_NOTE]}.." if is_long else it.note, **times)
+    return it._replace(note=f"{str(it.note)[:MOST_OF_A_NOTE]}.." if is_long else it.note, began=began, seen=seen, since=since)
 
 
 def given_up(connection: sa.engine.Connection) -> Iterator[str]:

@@ -75,7 +75,7 @@ class _Reader:
         except (expat.ExpatError, ValueError, binascii.Error) as why:
             raise NotAManifest(str(why))
 
-    def _refuse(self, *_) -> None:
+    def _refuse(self, *_: object) -> None:
         raise NotAManifest("it has a document type")
 
     def _begin(self, element: str, attributes: Dict[str, str]) -> None:

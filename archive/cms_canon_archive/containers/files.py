@@ -6,10 +6,10 @@ import errno
 import io
 import os
 import stat
-from typing import Any, BinaryIO, Iterator, Optional, Tuple
+from typing import Any, BinaryIO, Iterable, Iterator, Optional, Tuple
 
 from .finder import found_in
-from .found import Class, Content, Found, Pieces, State, numbered
+from .found import Class, Content, Found, Octets, Pieces, State, numbered
 from .packed import why_of
 from .sources import PIECE, Budget, Ended, Source, TooMuch
 
@@ -76,7 +76,9 @@ def beside(path: str) -> Optional[Content]:
     try:
         with opened(path) as file:
             length = os.fstat(file.fileno()).st_size
-            pieces = Pieces(file.read()) if length <= SMALL else _FilePieces(path)
+            pieces: Iterable[Octets] = _FilePieces(path)
+            if length <= SMALL:
+                pieces = Pieces(file.read())
     except FileNotFoundError:
         return None
     except (OSError, Unreadable) as error:

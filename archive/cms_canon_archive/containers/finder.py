@@ -108,7 +108,7 @@ def _look_for(source: Source, depth: int, mails: int) -> Look:
     if packed.is_tar(source):
         return "tar", partial(_packed, source, depth, packed.Tar(source, None, inner).found)
     if (archive := marks.by_beginning(source)) is not None:
-        return archive.form, lambda: iter((archive,))
+        return archive.form, partial(_alone, archive)
     if source.head and not source.head.translate(None, TEXT) or mail.is_mail(source.head):
         return _look_for_text(source, depth, mails)
     if source.head.startswith(_UTF_16):
@@ -116,6 +116,10 @@ def _look_for(source: Source, depth: int, mails: int) -> Look:
     if source.head.startswith(_ELEMENT):
         return "file", partial(_in_octets, source)
     return _or_pdf(source, "file", partial(_in_octets, source), depth, mails)
+
+
+def _alone(found: Found) -> Iterator[Found]:
+    yield found
 
 
 def _in_attached(depth: int, mails: int, source: Source) -> Iterator[Found]:
@@ -128,7 +132,9 @@ def _in_attached(depth: int, mails: int, source: Source) -> Iterator[Found]:
 def _or_pdf(source: Source, form: str, into: Into, depth: int, mails: int) -> Look:
     """Returns the same of a file in which a PDF may begin after something else, so that both are looked for."""
     late = partial(_in_late_pdf, source, into, partial(_in_attached, depth, mails))
-    return ("PDF", late) if pdf.BEGIN in source.head[:pdf.BEGINS_WITHIN] else (form, into)
+    if pdf.BEGIN in source.head[:pdf.BEGINS_WITHIN]:
+        return "PDF", late
+    return form, into
 
 
 def _in_pdf(source: Source, search: packed.Search) -> Iterator[Found]:

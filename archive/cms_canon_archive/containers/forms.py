@@ -123,9 +123,12 @@ def form_of(octets: bytes, budget: Budget) -> Form:
             why = _DAMAGED if any(_HARMLESS not in str(it) for it in pdf.get_warnings()) else packed.why_unsure
         except TooMany as too_many:
             why = str(too_many)
-        except pikepdf.PasswordError:
+        except pikepdf.PasswordError:  # type: ignore[attr-defined]  # pikepdf 6 does not say that it exports it
             why = "which signatures its form has is not known: that needs a password"
-        except (pikepdf.PdfError, AttributeError, KeyError, TypeError, ValueError, RuntimeError, ArithmeticError, MemoryError):
+        except (
+            pikepdf.PdfError,  # type: ignore[attr-defined]  # likewise
+            *(AttributeError, KeyError, TypeError, ValueError, RuntimeError, ArithmeticError, MemoryError),
+        ):
             why = _DAMAGED
     return Form(signatures, "; ".join(filter(None, (why, *oddities_of(octets, named)))), attached, pdf, has_others)
 

@@ -18,7 +18,7 @@ from email.parser import BytesHeaderParser
 from email.policy import compat32
 from functools import cached_property
 from itertools import chain, islice
-from typing import BinaryIO, Callable, Iterator, List, NamedTuple, Optional, Tuple
+from typing import BinaryIO, Callable, Dict, Iterator, List, NamedTuple, Optional, Tuple
 
 import cms_canon
 
@@ -130,7 +130,7 @@ def is_mail_further(source: Source) -> bool:
 def _headers_in(head: bytes) -> List[bytes]:
     """Returns the headers that say what the content is. Raises `_Damaged` if one is too long, two say it differently, or there are too many."""
     wanted: List[bytes] = []
-    said = {}
+    said: Dict[bytes, bytes] = {}
     for it in _HEADER.finditer(head):
         if len(it[0]) > _LONGEST_HEADER:
             raise _Damaged("a header is too long")

@@ -16,12 +16,12 @@ import zlib
 from contextlib import contextmanager
 from dataclasses import replace
 from functools import cached_property
-from typing import Any, BinaryIO, Callable, Dict, Iterator, List, NamedTuple, Optional, Set, Tuple
+from typing import Any, BinaryIO, Callable, Dict, Iterator, List, NamedTuple, Optional, Set, Tuple, cast
 
 from .found import Class, Content, Found, Pieces, State
 from .names import differing, path_of
 from .replaced import Replaced
-from .sources import MOST_IN_MEMORY, PIECE, Budget, Ended, Source, TooLarge, TooMuch, in_memory
+from .sources import MOST_IN_MEMORY, PIECE, Budget, Ended, Readable, Source, TooLarge, TooMuch, in_memory
 from .tar_headers import are_odd_values, is_odd, suit
 
 Search = Callable[[Source], Iterator[Found]]
@@ -108,7 +108,7 @@ class _Streams(io.RawIOBase):
             needs_input = self._unpacker.needs_input
             packed = (self._ahead or self._file.read(_PACKED)) if needs_input else b""
             self._ahead = b"" if needs_input else self._ahead
-            if octets := self._unpacker.decompress(packed, most):
+            if octets := bytes(self._unpacker.decompress(packed, most)):
                 return octets
             if needs_input and not packed and not self._unpacker.eof:
                 raise EOFError("Compressed file ended before the end-of-stream marker was reached")
@@ -246,7 +246,7 @@ def is_tar(source: Source) -> bool:
 def _is_old_tar(head: bytes) -> bool:
     """Whether a header without a mark begins a file: it has its own sum."""
     said = _SUM_OF_A_HEADER.match(head, 148)
-    return bool(said) and len(head) >= _BLOCK and sum(head[:148]) + 8 * 0x20 + sum(head[156:_BLOCK]) == int(said[1], 8)
+    return said is not None and len(head) >= _BLOCK and sum(head[:148]) + 8 * 0x20 + sum(head[156:_BLOCK]) == int(said[1], 8)
 
 
 def _sum_of(octets: bytes) -> int:
@@ -264,9 +264,9 @@ class _Header(tarfile.TarInfo):
     """The kinds of the headers with values that lie before it."""
 
     @classmethod
-    def frombuf(cls, buf: bytes, encoding: str, errors: str) -> tarfile.TarInfo:
+    def frombuf(cls, buf: bytes, encoding: str, errors: str) -> _Header:
         """Returns the same as `tarfile` does: in a third of the time, if the header is written as all programs write those of files."""
-        header = cls._frombuf(buf, encoding, errors)
+        header: _Header = cls._frombuf(buf, encoding, errors)
         header.is_odd = is_odd(buf)
         header.own_size = header.size
         return header
@@ -285,25 +285,27 @@ class _Header(tarfile.TarInfo):
             header.name = buf[345:500].partition(b"\0")[0].decode(encoding, errors) + "/" + header.name
         return header
 
-    def _proc_member(self, file: tarfile.TarFile) -> tarfile.TarInfo:
-        if len(file.pax_headers) > len(_KEPT):  # tarfile would go through all of them for each member
-            file.pax_headers = {key: file.pax_headers[key] for key in file.pax_headers.keys() & _KEPT}
+    def _proc_member(self, file: tarfile.TarFile) -> _Header:
+        values_of_all = file.pax_headers or {}
+        if len(values_of_all) > len(_KEPT):  # tarfile would go through all of them for each member
+            file.pax_headers = {key: values_of_all[key] for key in values_of_all.keys() & _KEPT}
         values = b""
         if self.type in _HEADERS_WITH_VALUES:
             if not 0 <= self.size <= LONGEST_HEADER:
                 raise Damaged("a header is too long")
-            file.fileobj.take(_TIMES_A_HEADER * self.size)
-            values = file.fileobj.peek(self.size)
+            blocks = cast(_Forward, file.fileobj)
+            blocks.take(_TIMES_A_HEADER * self.size)
+            values = blocks.peek(self.size)
             self.is_odd |= are_odd_values(self.type, values)
         if self.type == tarfile.GNUTYPE_SPARSE:
             raise Damaged("a member is sparse")
-        member: Any = super()._proc_member(file)
+        member: _Header = super()._proc_member(file)  # type: ignore[misc]  # the types of tarfile do not have it
         if member is not self:
             member.before += self.type
             member.is_odd |= self.is_odd or member.before not in _HEADERS_BEFORE or not suit(self.type, values, member, member.own_size)
         return member
 
-    def _proc_gnusparse_10(self, *_) -> None:
+    def _proc_gnusparse_10(self, *_: object) -> None:
         raise Damaged("a member is sparse")
 
 
@@ -403,8 +405,10 @@ class Tar:
             for member, file in self._members():
                 path = path_of(member.name)
                 names = wanted.get(path, [])
-                content = content_read(path, member.size, file, self._source.budget) if names else None
-                for name in names if content else ():
+                if not names:
+                    continue
+                content = content_read(path, member.size, file, self._source.budget)
+                for name in names:
                     self._with_content.add(name)
                     noted = replace(content, where=name, note=content.note or differing(name, self._replaced.reason(name)))
                     yield from (it.with_content(noted) for it in self._waiting[name])
@@ -422,13 +426,13 @@ class Tar:
 
     def _headers(self, blocks: _Forward) -> Iterator[Tuple[Any, tarfile.TarFile]]:
         """Gives each member. Raises `Damaged` if the tar cannot be read to its end."""
-        with tarfile.open(fileobj=blocks, mode="r:", tarinfo=_Header) as file:
+        with tarfile.open(fileobj=cast(BinaryIO, blocks), mode="r:", tarinfo=_Header) as file:
             for member in file:
                 self._source.budget.take_member()
                 if member.size < 0:  # tarfile would go back, and read the same member for ever
                     raise Damaged("a member has a negative length")
                 yield member, file
-                file.members = []  # tarfile would keep all of them
+                file.members = []  # type: ignore[attr-defined]  # tarfile would keep all of them, and its types do not have it
             if blocks.tell() != file.offset + _BLOCK or blocks.last != bytes(_BLOCK):  # tarfile takes any other block for the end too
                 raise Damaged("no end mark follows the last member")
 
@@ -448,7 +452,7 @@ class Tar:
                 yield file
 
 
-def content_read(name: str, length: int, file: BinaryIO, budget: Budget) -> Content:
+def content_read(name: str, length: int, file: Readable, budget: Budget) -> Content:
     """Returns a member as the content of a message."""
     try:
         octets = budget.read(file, MOST_IN_MEMORY)

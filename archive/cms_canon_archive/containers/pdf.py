@@ -18,7 +18,7 @@ import cms_canon
 
 from .forms import IN_NO_FIELD, MOST_OBJECTS, Form, FormSignature, attachments_of, form_of
 from .found import Class, Content, Found, Pieces, State, digest_of, is_message
-from .sources import PIECE, Budget, Source, TooLarge
+from .sources import PIECE, Budget, Readable, Source, TooLarge
 
 Search = Callable[[Source], Iterator[Found]]
 
@@ -251,7 +251,7 @@ def _in_attachments(source: Source, form: Form, search: Search) -> Iterator[Foun
         if it.filters not in ((), ("FlateDecode",)):
             yield Found(place, "PDF", Class.NOT_LOOKED_INTO, len(it.octets), note=f"an attachment that is packed by {' and '.join(it.filters)}")
             continue
-        file = _Inflated(it.octets) if it.filters else BytesIO(it.octets)
+        file: Readable = _Inflated(it.octets) if it.filters else BytesIO(it.octets)
         try:
             yield from _in_attachment(place, search(source.inner(it.name, file, 0 if it.filters else len(it.octets))))
         except zlib.error as why:

@@ -8,7 +8,7 @@ from __future__ import annotations
 
 import io
 from contextlib import contextmanager
-from typing import Any, BinaryIO, Iterator, Optional, Tuple
+from typing import Any, BinaryIO, Iterator, Optional, Protocol, Tuple, cast
 
 import cms_canon
 
@@ -42,6 +42,13 @@ class TooMuch(Ended):
 
 class TooLarge(Exception):
     """A file or member has more octets than are read as a whole."""
+
+
+class Readable(Protocol):
+    """What octets are read from, from its beginning on."""
+
+    def read(self, size: int = -1, /) -> bytes:
+        """Returns at most so many octets, and none at the end."""
 
 
 class Budget:
@@ -99,7 +106,7 @@ class Budget:
         finally:
             self._held -= octets
 
-    def read(self, file: BinaryIO, most: int) -> bytes:
+    def read(self, file: Readable, most: int) -> bytes:
         """Reads the rest of a file, of at most so many octets, by pieces. Raises `TooLarge` if there are more."""
         whole = io.BytesIO()  # which hands over its octets without a copy
         while piece := file.read(min(PIECE, most + 1 - whole.tell())):
@@ -113,7 +120,7 @@ class Budget:
 class _Forward(io.RawIOBase):
     """Octets that were read already, and the rest of the file that they are of."""
 
-    def __init__(self, head: bytes, rest: BinaryIO) -> None:
+    def __init__(self, head: bytes, rest: Readable) -> None:
         self._head = head
         self._rest = rest
 
@@ -130,12 +137,12 @@ class _Forward(io.RawIOBase):
 class Source:
     """A file or a member: its beginning is read at once, and all of it only if it is needed."""
 
-    def __init__(self, name: str, file: BinaryIO, size: int, budget: Budget, is_seekable: bool = False) -> None:
-        """Begins to read. `size` is how many octets it is said to have."""
+    def __init__(self, name: str, file: Readable, size: int, budget: Budget, is_seekable: bool = False) -> None:
+        """Begins to read. `size` is how many octets it is said to have; a file that is seekable is one of Python's."""
         self.name = name
         self.size = size
         self.budget = budget
-        self._file = file
+        self._file = cast(BinaryIO, file)
         self._is_seekable = is_seekable
         self.is_in_memory = isinstance(file, io.BytesIO)
         self.head = b""
@@ -220,7 +227,7 @@ class Source:
         if self._is_seekable:
             self._file.seek(at)
 
-    def inner(self, name: str, file: BinaryIO, size: int) -> Source:
+    def inner(self, name: str, file: Readable, size: int) -> Source:
         """Returns a member as a source within the same budget."""
         return Source(name, file, size, self.budget)
 

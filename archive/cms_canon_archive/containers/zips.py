@@ -81,7 +81,7 @@ class _Unpacked(io.RawIOBase):
         unpacker = getattr(self._member, "_decompressor", None)
         if not getattr(unpacker, "eof", True):
             raise Damaged("its packed octets have no end")
-        if self._left or getattr(unpacker, "unused_data", b"") or getattr(self._member, "_compress_left", 0):
+        if any((self._left, getattr(unpacker, "unused_data", b""), getattr(self._member, "_compress_left", 0))):
             raise Damaged("it has not as many octets as its headers say")
 
     def close(self) -> None:
