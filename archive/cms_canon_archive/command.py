@@ -395,9 +395,9 @@ def same_command(file: str, url: str, wait: Optional[float], form: Optional[str]
     """List the files that are the same message as one of FILE, whatever that keeps it in."""
     store = Store(url, wait=wait)
     messages = list(exporting.digests_in(file, sys.stdin.buffer.read() if file == "-" else None))
-    for it in messages:
-        if it.why_not is not None:
-            click.echo(f"{shown(it.name)}: {it.why_not}", err=True)
+    for message in messages:
+        if message.why_not is not None:
+            click.echo(f"{shown(message.name)}: {message.why_not}", err=True)
     if not messages:
         click.echo(f"{shown(file)}: there is no message", err=True)
     digests_found = dict.fromkeys(it.text for it in messages if it.why_not is None)

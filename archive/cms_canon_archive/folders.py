@@ -87,16 +87,16 @@ def listed(path: str, chunk: int, chunks: int) -> Listing:
     names: Optional[Set[str]] = set() if chunks == 1 else None
     count = 0
     with os.scandir(path) as found:
-        for it in found:
-            name = it.name
+        for entry in found:
+            name = entry.name
             if names is not None:
                 names.add(name)
-            if it.is_file(follow_symlinks=False):
+            if entry.is_file(follow_symlinks=False):
                 count += 1
                 text = text_of(name)
                 if chunks == 1 or chunk_of(text, chunks) == chunk:
-                    files[text] = it
-            elif chunk == 0 and it.is_dir(follow_symlinks=False):
+                    files[text] = entry
+            elif chunk == 0 and entry.is_dir(follow_symlinks=False):
                 folders.append(name)
     return Listing(dict(sorted(files.items())), sorted(folders), count, names)
 

@@ -221,16 +221,16 @@ def _signing_time(signer: cms_canon.SignerInfo) -> Optional[str]:
     return f"{digits[:4]}-{digits[4:6]}-{digits[6:8]}T{digits[8:10]}:{digits[10:12]}:{digits[12:14]}Z" if len(digits) == 14 else None
 
 
-def _signer(number: str, it: cms_canon.SignerInfo, certificates: List[_Certificate]) -> Signer:
-    known = next((c for c in certificates if _is_named(c, it)), _NO_CERTIFICATE)
+def _signer(number: str, signer: cms_canon.SignerInfo, certificates: List[_Certificate]) -> Signer:
+    known = next((c for c in certificates if _is_named(c, signer)), _NO_CERTIFICATE)
     return Signer(
         number=number,
-        digest=_oid_name(it.digest_algorithm.oid),
-        signature=_oid_name(it.signature_algorithm.oid),
+        digest=_oid_name(signer.digest_algorithm.oid),
+        signature=_oid_name(signer.signature_algorithm.oid),
         issuer=known.issuer_text,
-        serial=None if it.serial_number is None else _hex(it.serial_number),
-        key_identifier=None if it.subject_key_identifier is None else it.subject_key_identifier.hex(),
-        signing_time=_signing_time(it),
+        serial=None if signer.serial_number is None else _hex(signer.serial_number),
+        key_identifier=None if signer.subject_key_identifier is None else signer.subject_key_identifier.hex(),
+        signing_time=_signing_time(signer),
         subject=known.subject,
         not_before=known.not_before,
         not_after=known.not_after,
@@ -268,8 +268,8 @@ def _countersigned(signers: Iterable[cms_canon.SignerInfo], before: str = "") ->
         yield from _countersigned(it.countersignatures, f"{before}{number}.")
 
 
-def _state_of_countersigner(it: cms_canon.SignerInfo, signature: bytes, digests: Dict[str, bytes]) -> State:
-    digest, name = _message_digest(it), it.digest_algorithm.name or ""
+def _state_of_countersigner(countersigner: cms_canon.SignerInfo, signature: bytes, digests: Dict[str, bytes]) -> State:
+    digest, name = _message_digest(countersigner), countersigner.digest_algorithm.name or ""
     if digest is None:
         return State.NO_DIGEST
     if name not in _HASHES:
@@ -458,9 +458,9 @@ def _with_countersigned(state: State, message: cms_canon.Message) -> Tuple[State
     first: Dict[State, str] = {}
     for number, it in _countersigned(message.signers):
         first.setdefault(it, number)
-    for it in (State.DIFFERS, State.NO_DIGEST, State.UNKNOWN_DIGEST):
-        if it in first:
-            return it if it is State.DIFFERS or state in GOOD else state, f"countersigner {first[it]}: {it.value}"
+    for worse in (State.DIFFERS, State.NO_DIGEST, State.UNKNOWN_DIGEST):
+        if worse in first:
+            return worse if worse is State.DIFFERS or state in GOOD else state, f"countersigner {first[worse]}: {worse.value}"
     return state, ""
 
 

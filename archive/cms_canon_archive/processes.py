@@ -128,15 +128,15 @@ class Processes:
         return self
 
     def __exit__(self, *_: object) -> None:
-        for it in self._processes:
-            it.signal(signal.SIGTERM)
-            it.signal(signal.SIGCONT)
+        for process in self._processes:
+            process.signal(signal.SIGTERM)
+            process.signal(signal.SIGCONT)
         end = time.monotonic() + _SECONDS_TO_END
-        for it in self._processes:
-            it.wait(max(0.0, end - time.monotonic()))
-            it.signal(signal.SIGKILL)
-            it.wait(_SECONDS_TO_END)
-            it.close()
+        for process in self._processes:
+            process.wait(max(0.0, end - time.monotonic()))
+            process.signal(signal.SIGKILL)
+            process.wait(_SECONDS_TO_END)
+            process.close()
 
     def running(self) -> int:
         """Returns how many processes there are."""
@@ -152,14 +152,14 @@ class Processes:
 
     def tend(self) -> None:
         """Begins a process for each that was killed, and kills those that were stopped. Raises `Failed` if one ended with an error."""
-        for it in list(self._processes):
-            status = it.status()
+        for process in list(self._processes):
+            status = process.status()
             if status is None:
-                self._kill_if_stopped(it)
+                self._kill_if_stopped(process)
                 continue
-            self._processes.remove(it)
-            line = it.line() if status > 0 else ""
-            it.close()
+            self._processes.remove(process)
+            line = process.line() if status > 0 else ""
+            process.close()
             if status > 0:
                 raise Failed(line)
             if status < 0:

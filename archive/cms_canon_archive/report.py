@@ -145,8 +145,8 @@ def tables_of(summary: Summary) -> List[Table]:
     states = [(it, meaning, counts.get(it, 0)) for it, meaning in STATES.items() if counts.get(it) or it == State.FITS.value]
     algorithms = [(*it[:4], it.signers, "weak" if it.is_weak else "") for it in summary.algorithms]
     who = [
-        (it.subject or "no certificate in the message", it.signers, *(day and day[:10] for day in it[2:5]), "ended" if it.has_ended else "")
-        for it in summary.who
+        (one.subject or "no certificate in the message", one.signers, *(day and day[:10] for day in one[2:5]), "ended" if one.has_ended else "")
+        for one in summary.who
     ]
     algorithm_columns = (Column("Digest"), Column("Signature"), Column("Key"), _number("Bits"), _number("Signers"), Column(""))
     who_columns = (Column("Name"), _number("Signatures"), Column("First"), Column("Last"), Column("Certificate ends"), Column(""))

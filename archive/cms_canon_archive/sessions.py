@@ -407,12 +407,12 @@ class Session:
                 connection.execute(statement.values(rows))
 
     def _note_done(self, connection: sa.engine.Connection, outcomes: Sequence[Outcome]) -> None:
-        for it in outcomes:
-            if it.part.chunk > 0 and self._is_stray(connection, it.part):
-                it.is_gone = True
-                self._drop_all(connection, [it.part.id])
-            elif it.part.chunk == 0 and not it.is_gone and (it.chunks > 1 or it.chunks != it.part.chunks):
-                self._divide(connection, it)
+        for outcome in outcomes:
+            if outcome.part.chunk > 0 and self._is_stray(connection, outcome.part):
+                outcome.is_gone = True
+                self._drop_all(connection, [outcome.part.id])
+            elif outcome.part.chunk == 0 and not outcome.is_gone and (outcome.chunks > 1 or outcome.chunks != outcome.part.chunks):
+                self._divide(connection, outcome)
         gone = [it.part.id for it in outcomes if it.is_gone]
         if gone:
             connection.execute(sa.delete(PARTS).where(PARTS.c.id.in_(gone)))

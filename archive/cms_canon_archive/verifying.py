@@ -251,20 +251,20 @@ class _Stored(NamedTuple):
 
 def _files(store: Store, sample: Optional[int]) -> Iterator[Difference]:
     """Reads files again, and gives the places of which something else is stored."""
-    for it in _files_of(store, sample):
-        default = next((row["worker"] for _, row in sorted(it.places.items()) if row["worker"] is not None), it.holder)
-        for place in sorted(it.strays):
-            yield Difference(name_of({"path": it.path, "member": place}), "its signers or times are stored, and it is not", default)
-        if is_cut(it.whole):
-            yield Difference(it.path, TOO_LONG, default)
+    for file in _files_of(store, sample):
+        default = next((row["worker"] for _, row in sorted(file.places.items()) if row["worker"] is not None), file.holder)
+        for place in sorted(file.strays):
+            yield Difference(name_of({"path": file.path, "member": place}), "its signers or times are stored, and it is not", default)
+        if is_cut(file.whole):
+            yield Difference(file.path, TOO_LONG, default)
             continue
-        path = path_named_by(it.whole)
+        path = path_named_by(file.whole)
         if path is None:
-            yield Difference(it.path, NO_PATH, default)
-        elif not it.is_folder and not _is_file(path):
-            yield Difference(it.path, GONE, default)
+            yield Difference(file.path, NO_PATH, default)
+        elif not file.is_folder and not _is_file(path):
+            yield Difference(file.path, GONE, default)
         else:
-            yield from _compared_with_file(it, path, default)
+            yield from _compared_with_file(file, path, default)
 
 
 def _is_file(path: str) -> bool:

@@ -48,11 +48,11 @@ def _files_and_folders(path: str) -> Tuple[List[str], List[str]]:
     """Returns the files and the folders in a folder, in the order of their names. Symbolic links are not among them."""
     files, folders = [], []
     with os.scandir(path) as found:
-        for it in sorted(found, key=lambda it: it.name):
-            if it.is_dir(follow_symlinks=False):
-                folders.append(it.path)
-            elif it.is_file(follow_symlinks=False):
-                files.append(it.path)
+        for entry in sorted(found, key=lambda it: it.name):
+            if entry.is_dir(follow_symlinks=False):
+                folders.append(entry.path)
+            elif entry.is_file(follow_symlinks=False):
+                files.append(entry.path)
     return files, folders
 
 

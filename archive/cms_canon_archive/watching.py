@@ -121,12 +121,12 @@ def workers_of(connection: sa.engine.Connection, is_all: bool = False) -> Iterat
         yield _plain(WorkerState(*row))
 
 
-def _plain(it: WorkerState) -> WorkerState:
+def _plain(worker: WorkerState) -> WorkerState:
     """Returns the same without what no worker that works would say: times before 1970 or to come, and a note that is long."""
     latest = int(time.time()) + DAY
-    began, seen, since = (time if time is not None and 0 <= time <= latest else None for time in (it.began, it.seen, it.since))
-    is_long = it.note is not None and len(it.note) > MOST_OF_A_NOTE
-    return it._replace(note=f"{str(it.note)[:MOST_OF_A_NOTE]}.." if is_long else it.note, began=began, seen=seen, since=since)
+    began, seen, since = (it if it is not None and 0 <= it <= latest else None for it in (worker.began, worker.seen, worker.since))
+    is_long = worker.note is not None and len(worker.note) > MOST_OF_A_NOTE
+    return worker._replace(note=f"{str(worker.note)[:MOST_OF_A_NOTE]}.." if is_long else worker.note, began=began, seen=seen, since=since)
 
 
 def given_up(connection: sa.engine.Connection) -> Iterator[str]:

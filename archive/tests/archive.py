@@ -209,10 +209,10 @@ def begun(home, *words, **how):
 
 def ran(home, *words, status=0, **how):
     """Runs the command, which has to end with this status."""
-    it = ended(home, *words, **how)
-    if it.returncode != status:
-        raise SystemExit(f"{words} ended with {it.returncode}: {it.stderr[-2000:]}")
-    return it
+    done = ended(home, *words, **how)
+    if done.returncode != status:
+        raise SystemExit(f"{words} ended with {done.returncode}: {done.stderr[-2000:]}")
+    return done
 
 
 def command(home, *words, status=0):
@@ -526,8 +526,8 @@ def judge_line_of_parallel(home, folder, files, url, kind):
     (write_files(home, {"hosts": b"1/:\n", "bin/cms-canon-archive": program}) / "bin" / "cms-canon-archive").chmod(0o755)
     line = command(home, "index", folder, "--store", url, "--via-pipe").replace("--stay 60", "--stay 20")
     environment = environment_of(home, PATH=f"{home}/bin:{os.environ['PATH']}")
-    it = subprocess.run(["sh", "-c", line], cwd=home, env=environment, capture_output=True, text=True, timeout=SECONDS)
-    count(f"the line for GNU parallel, {kind}", f"{it.returncode} {it.stderr[-500:]}" if it.returncode else differs_from(files, store_of(url)))
+    done = subprocess.run(["sh", "-c", line], cwd=home, env=environment, capture_output=True, text=True, timeout=SECONDS)
+    count(f"the line for GNU parallel, {kind}", f"{done.returncode} {done.stderr[-500:]}" if done.returncode else differs_from(files, store_of(url)))
 
 
 def judge_cluster(home, folder, files, server):

@@ -680,10 +680,10 @@ def deep(der: bytes) -> Case:
 
 def appended(octets: bytes, depth: int, more: bytes) -> bytes:
     """Returns an element to which more is appended: at its end, or so many deep, each time in the last element of the one around it."""
-    it = element_at(octets)
+    whole = element_at(octets)
     if depth:
-        more = appended(it.members.pop().octets, depth - 1, more)
-    return element(it.identifier, *([one.octets for one in it.members] if depth else [it.contents]), more)
+        more = appended(whole.members.pop().octets, depth - 1, more)
+    return element(whole.identifier, *([one.octets for one in whole.members] if depth else [whole.contents]), more)
 
 
 def last_of(octets: bytes, depth: int) -> bytes:

@@ -194,8 +194,8 @@ def judge_stopped_process(case):
     url, stopped = case.store("SQLite"), case.home / "stopped"
     words = ("index", case.folder, "--store", url, "--jobs", 2, "--idle-timeout", IDLE)
     with faulty_processes(case.home):
-        it = ended(case.home, *words, env=environment_of(case.home, STOPPED=str(stopped)), timeout=DEADLINE)
-    case.count("a process of index that is stopped", url, other_than((it.returncode, stopped.exists()), (0, True)) and str(it)[-400:])
+        done = ended(case.home, *words, env=environment_of(case.home, STOPPED=str(stopped)), timeout=DEADLINE)
+    case.count("a process of index that is stopped", url, other_than((done.returncode, stopped.exists()), (0, True)) and str(done)[-400:])
 
 
 def judge_superseded(case):

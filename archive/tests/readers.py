@@ -201,17 +201,18 @@ class Member:
         return self.packed
 
     def written(self) -> bytes:
-        it = self.numbers({**({"crc": 0, "packed": 0, "unpacked": 0} if self.flags & 8 else {}), **self.local})
-        header = struct.pack("<4s5H3L2H", b"PK\3\4", 20, it["flags"], it["method"], 0, 33, it["crc"], it["packed"], it["unpacked"], len(it["name"]),
-                             len(it["extra"]))
+        values = self.numbers({**({"crc": 0, "packed": 0, "unpacked": 0} if self.flags & 8 else {}), **self.local})
+        sizes = (values["crc"], values["packed"], values["unpacked"], len(values["name"]), len(values["extra"]))
+        header = struct.pack("<4s5H3L2H", b"PK\3\4", 20, values["flags"], values["method"], 0, 33, *sizes)
         end = self.numbers({})
         descriptor = struct.pack("<4s3L", b"PK\7\x08", end["crc"], end["packed"], end["unpacked"]) if self.flags & 8 else b""
-        return header + it["name"] + it["extra"] + self.packed_octets() + descriptor + self.after
+        return header + values["name"] + values["extra"] + self.packed_octets() + descriptor + self.after
 
     def entry(self, at: int) -> bytes:
-        it = self.numbers({"at": at, "mode": 0o100644 << 16, "system": 3, **self.listed})
-        return struct.pack("<4sBB5H3L5H2L", b"PK\1\2", 20, it["system"], 20, it["flags"], it["method"], 0, 33, it["crc"], it["packed"], it["unpacked"],
-                           len(it["name"]), len(it["extra"]), 0, 0, 0, it["mode"], it["at"]) + it["name"] + it["extra"]
+        values = self.numbers({"at": at, "mode": 0o100644 << 16, "system": 3, **self.listed})
+        sizes = (values["crc"], values["packed"], values["unpacked"], len(values["name"]), len(values["extra"]))
+        head = (20, values["system"], 20, values["flags"], values["method"], 0, 33, *sizes, 0, 0, 0, values["mode"], values["at"])
+        return struct.pack("<4sBB5H3L5H2L", b"PK\1\2", *head) + values["name"] + values["extra"]
 
 
 @dataclass
@@ -234,10 +235,10 @@ class Zip:
     def written(self) -> bytes:
         octets, places = bytearray(self.before), {}
         every = self.members + [it for it in self.other_list or [] if it not in self.members]
-        for it in every:
-            if it.is_there:
-                places[id(it)] = len(octets) - (0 if self.is_shifted else len(self.before))
-                octets += it.written()
+        for member in every:
+            if member.is_there:
+                places[id(member)] = len(octets) - (0 if self.is_shifted else len(self.before))
+                octets += member.written()
         octets += self.gap
         lists = [self._list(some, places) for some in (self.members, self.other_list) if some is not None]
         begins = []
@@ -277,101 +278,101 @@ def hidden_in(member: Member, name: bytes) -> None:
 
 # What is done to a zip: each trick takes it, the name of the member to be changed, and a generator of random numbers.
 
-def _twice(it: Zip, name: bytes, random: Random) -> None:
-    it.members.insert(random.randrange(len(it.members) + 1), Member(name, OTHER))
+def _twice(whole: Zip, name: bytes, random: Random) -> None:
+    whole.members.insert(random.randrange(len(whole.members) + 1), Member(name, OTHER))
 
 
-def _hidden(it: Zip, name: bytes, random: Random) -> None:
-    it.members.insert(random.randrange(len(it.members) + 1), Member(name, OTHER, is_listed=False))
+def _hidden(whole: Zip, name: bytes, random: Random) -> None:
+    whole.members.insert(random.randrange(len(whole.members) + 1), Member(name, OTHER, is_listed=False))
 
 
-def _hidden_within(it: Zip, name: bytes, random: Random) -> None:
-    hidden_in(random.choice(it.members), name)
+def _hidden_within(whole: Zip, name: bytes, random: Random) -> None:
+    hidden_in(random.choice(whole.members), name)
 
 
-def _other_header(it: Zip, name: bytes, random: Random) -> None:
-    member = next(one for one in it.members if one.name == name)
+def _other_header(whole: Zip, name: bytes, random: Random) -> None:
+    member = next(one for one in whole.members if one.name == name)
     choices = {"name": b"other", "crc": 1, "packed": 1, "unpacked": 1, "method": 0, "extra": b"\1\0\x10\0" + bytes(16)}
     for key in random.sample(sorted(choices), random.randrange(1, 3)):
         random.choice((member.local, member.listed))[key] = choices[key]
 
 
-def _swapped(it: Zip, name: bytes, random: Random) -> None:
+def _swapped(whole: Zip, name: bytes, random: Random) -> None:
     """The headers before two members have the name of the other."""
-    member, other = next(one for one in it.members if one.name == name), Member(b"swapped", OTHER)
+    member, other = next(one for one in whole.members if one.name == name), Member(b"swapped", OTHER)
     member.local["name"], other.local["name"] = other.name, name
-    it.members.append(other)
+    whole.members.append(other)
 
 
-def _other_spelling(it: Zip, name: bytes, random: Random) -> None:
+def _other_spelling(whole: Zip, name: bytes, random: Random) -> None:
     text = name.decode()
     spellings = (f"./{text}", f"x/../{text}", f"/{text}", f"{text}/", text.upper(), f"../{text}", text.replace("/", "\\"), f"{text}\0x", f"//{text}", f"{text};1", f"\7{text}",
                  f"{text}/more", unicodedata.normalize("NFD", text))
     spelt = random.choice(spellings).encode()
     if random.random() < 0.3:
-        next(one for one in it.members if one.name == name).name = spelt
+        next(one for one in whole.members if one.name == name).name = spelt
     else:
-        it.members.insert(random.randrange(len(it.members) + 1), Member(spelt, OTHER))
+        whole.members.insert(random.randrange(len(whole.members) + 1), Member(spelt, OTHER))
 
 
-def _other_characters(it: Zip, name: bytes, random: Random) -> None:
+def _other_characters(whole: Zip, name: bytes, random: Random) -> None:
     """A member has the name in an extra field, or in characters that some take for others."""
     extra = struct.pack("<HHBL", 0x7075, 5 + len(name), 1, zlib.crc32(b"other")) + name
     both = {"extra": extra}
-    it.members.insert(random.randrange(len(it.members) + 1), Member(b"other", OTHER, flags=0, local=both, listed=random.choice((both, {}))))
+    whole.members.insert(random.randrange(len(whole.members) + 1), Member(b"other", OTHER, flags=0, local=both, listed=random.choice((both, {}))))
 
 
-def _two_lists(it: Zip, name: bytes, random: Random) -> None:
-    it.other_list = [one for one in it.members if one.name != name] + [Member(name, OTHER)]
+def _two_lists(whole: Zip, name: bytes, random: Random) -> None:
+    whole.other_list = [one for one in whole.members if one.name != name] + [Member(name, OTHER)]
     if random.random() < 0.5:
-        it.members, it.other_list = it.other_list, it.members
-    it.is_other_in_64 = random.random() < 0.7
-    if not it.is_other_in_64:
-        it.end["octets"] = 0
+        whole.members, whole.other_list = whole.other_list, whole.members
+    whole.is_other_in_64 = random.random() < 0.7
+    if not whole.is_other_in_64:
+        whole.end["octets"] = 0
 
 
-def _other_end(it: Zip, name: bytes, random: Random) -> None:
-    it.end[random.choice(("number", "octets", "begin"))] = random.choice((0, 1, 46, 100))
+def _other_end(whole: Zip, name: bytes, random: Random) -> None:
+    whole.end[random.choice(("number", "octets", "begin"))] = random.choice((0, 1, 46, 100))
 
 
-def _around(it: Zip, name: bytes, random: Random) -> None:
+def _around(whole: Zip, name: bytes, random: Random) -> None:
     other = Zip([Member(name, OTHER)]).written()
     octets = random.choice((b"x" * random.randrange(1, 50), other, Member(name, OTHER).written()))
-    setattr(it, random.choice(("before", "gap", "after", "comment")), octets)
-    it.is_shifted = random.random() < 0.5
+    setattr(whole, random.choice(("before", "gap", "after", "comment")), octets)
+    whole.is_shifted = random.random() < 0.5
 
 
-def _linked(it: Zip, name: bytes, random: Random) -> None:
-    member = next(one for one in it.members if one.name == name)
+def _linked(whole: Zip, name: bytes, random: Random) -> None:
+    member = next(one for one in whole.members if one.name == name)
     if random.random() < 0.5:
         member.listed["mode"] = (stat.S_IFLNK | 0o777) << 16
     else:
-        it.members.insert(0, Member(name, b"other", listed={"mode": (stat.S_IFLNK | 0o777) << 16}))
-    it.members.append(Member(b"other", OTHER))
+        whole.members.insert(0, Member(name, b"other", listed={"mode": (stat.S_IFLNK | 0o777) << 16}))
+    whole.members.append(Member(b"other", OTHER))
 
 
-def _described(it: Zip, name: bytes, random: Random) -> None:
+def _described(whole: Zip, name: bytes, random: Random) -> None:
     """Members have descriptors, also such as are stored."""
-    for one in it.members:
+    for one in whole.members:
         one.flags |= 8
         one.method = random.choice((0, 8, 8))
 
 
-def _stored(it: Zip, name: bytes, random: Random) -> None:
+def _stored(whole: Zip, name: bytes, random: Random) -> None:
     """A stored member has other octets than its sizes say."""
-    member = next(one for one in it.members if one.name == name)
+    member = next(one for one in whole.members if one.name == name)
     member.method, member.packed = zipfile.ZIP_STORED, member.octets + OTHER
 
 
-def _longer(it: Zip, name: bytes, random: Random) -> None:
+def _longer(whole: Zip, name: bytes, random: Random) -> None:
     """A member goes on after the octets that both headers speak of."""
-    deflater, member = zlib.compressobj(9, zlib.DEFLATED, -15), next(one for one in it.members if one.name == name)
+    deflater, member = zlib.compressobj(9, zlib.DEFLATED, -15), next(one for one in whole.members if one.name == name)
     member.method, member.packed = zipfile.ZIP_DEFLATED, deflater.compress(member.octets + OTHER) + deflater.flush()
 
 
-def _same_header(it: Zip, name: bytes, random: Random) -> None:
+def _same_header(whole: Zip, name: bytes, random: Random) -> None:
     """Two entries of the list are for one member."""
-    it.members.append(Member(b"shared", DOCUMENT, is_there=False))
+    whole.members.append(Member(b"shared", DOCUMENT, is_there=False))
 
 
 TRICKS = (_twice, _hidden, _hidden_within, _other_header, _swapped, _other_spelling, _other_characters, _two_lists, _other_end, _around, _linked,

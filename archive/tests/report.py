@@ -141,9 +141,9 @@ class Page(HTMLParser):
         self.texts = {it.attrib["id"]: "".join(it.itertext()) for it in self.root.iter() if "id" in it.attrib}
         self.tables = {it.attrib["id"]: [[*map(text_of, row)] for row in it.iter("tr")] for it in self.root.iter("table")}
         self.cards = [
-            SimpleNamespace(title=texts_of(it.iter("h3")), code=texts_of({*it.iter("code")} - {*it.findall(".//li//code")}),
-                            files=[text_of(file) for file in it.iter("li")])
-            for it in self.root.iter("article")
+            SimpleNamespace(title=texts_of(article.iter("h3")), code=texts_of({*article.iter("code")} - {*article.findall(".//li//code")}),
+                            files=[text_of(file) for file in article.iter("li")])
+            for article in self.root.iter("article")
         ]
 
     def handle_starttag(self, tag, attributes):

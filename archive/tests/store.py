@@ -437,10 +437,10 @@ def judge_want_of_memory(home, make):
     folder = write_files(home / "memory", {"large.pdf": b"%PDF-1.7\n", **dict.fromkeys(("doc.p7s", "zz.p7s"), make.cms(DOCUMENT, "-nodetach"))})
     os.truncate(folder / "large.pdf", 250 << 20)
     limit = {"preexec_fn": lambda: resource.setrlimit(resource.RLIMIT_AS, (SMALL_MEMORY, SMALL_MEMORY))}
-    it = ended(home, "index", folder, "--store", "memory.db", "--jobs", 1, **limit)
+    done = ended(home, "index", folder, "--store", "memory.db", "--jobs", 1, **limit)
     rows = {Path(row.path).name: (row.what, "memory" in (row.error or "")) for row in store_of(home / "memory.db")}
     wanted = {"large.pdf": ("unreadable", True), "doc.p7s": ("message", False), "zz.p7s": ("message", False)}
-    count_if("want of memory", (it.returncode, rows) == (0, wanted), rows, it)
+    count_if("want of memory", (done.returncode, rows) == (0, wanted), rows, done)
 
 
 def judge_many(home, make):
@@ -475,8 +475,8 @@ def judge_many(home, make):
 
 
 def load(home, lines, url):
-    it = ended(home, "load", "--store", url, input=lines)
-    return it.returncode, it.stderr
+    done = ended(home, "load", "--store", url, input=lines)
+    return done.returncode, done.stderr
 
 
 def judge_lines(home, folder):

@@ -60,8 +60,8 @@ def variables_of(home, name, service, password):
 
 
 def worked(home, **variables):
-    it = ended(home, "work", "--store", STORE, "--jobs", 2, "--idle-timeout", 2, env=environment_of(home, **variables))
-    return it.returncode, it.stderr
+    done = ended(home, "work", "--store", STORE, "--jobs", 2, "--idle-timeout", 2, env=environment_of(home, **variables))
+    return done.returncode, done.stderr
 
 
 def judge_refused(home, client):
@@ -89,13 +89,13 @@ def judge_cluster(home, folder, certificates, server, client):
     own = {**environment, "PGSERVICEFILE": str(home / "owner.conf")}
     before = server.ask("SELECT max(id) FROM workers", database="archive")[0][0]
     with dask_cluster.cluster(home, environment, workers=2, protocol="tls") as made:
-        it = ended(home, "index", folder, "--anew", "--store", STORE, "--scheduler", made.address, env=own)
+        done = ended(home, "index", folder, "--anew", "--store", STORE, "--scheduler", made.address, env=own)
         accounts = server.ask("SELECT DISTINCT account FROM workers WHERE parts > 0 AND id > %s", before, database="archive")
-        count_if("a cluster with TLS", it.returncode == 0 and accounts == [("archive_worker",)], it, accounts)
+        count_if("a cluster with TLS", done.returncode == 0 and accounts == [("archive_worker",)], done, accounts)
         plain = {name: value for name, value in own.items() if name != "DASK_CONFIG"}
         for name, address in (("no certificate", made.address), ("no TLS to the scheduler", made.address.replace("tls", "tcp"))):
-            it = ended(home, "index", folder, "--store", STORE, "--scheduler", address, env=plain)
-            count_if(name, it.returncode == 1 and is_line(it.stderr) and it.stderr.startswith("Error: "), it.stderr[-400:])
+            done = ended(home, "index", folder, "--store", STORE, "--scheduler", address, env=plain)
+            count_if(name, done.returncode == 1 and is_line(done.stderr) and done.stderr.startswith("Error: "), done.stderr[-400:])
 
 
 def judge_all(home):

@@ -113,10 +113,10 @@ def manifest_of(name: str, octets: bytes, budget: Budget) -> Manifest:
 
 def signed_of(message: bytes, manifests: Sequence[Manifest], budget: Budget) -> Manifest:
     """Returns the manifest that a message signs or stamps, of several that name it; the first if it is none of them."""
-    for it in manifests[:MOST_TRIED] if len(manifests) > 1 else ():
-        budget.take(len(message) + len(it.octets))
-        if _is_for(message, it.octets):
-            return it
+    for manifest in manifests[:MOST_TRIED] if len(manifests) > 1 else ():
+        budget.take(len(message) + len(manifest.octets))
+        if _is_for(message, manifest.octets):
+            return manifest
     return manifests[0]
 
 

@@ -36,14 +36,14 @@ def found_in(source: Source, depth: int = 0, mails: int = 0) -> Iterator[Found]:
     form, look = _look_for(source, depth, mails)
     own = None
     try:
-        for it in counted(look(), tally):
-            if it.what is Class.MESSAGE and not it.is_opened:
-                yield from _in_signed_content(it, source, depth, mails)
-                it = it._replace(is_opened=True)
-            if it.where == "":
-                own = it
+        for place in counted(look(), tally):
+            if place.what is Class.MESSAGE and not place.is_opened:
+                yield from _in_signed_content(place, source, depth, mails)
+                place = place._replace(is_opened=True)
+            if place.where == "":
+                own = place
             else:
-                yield it
+                yield place
     except (Ended, MemoryError):
         raise
     except packed.Missing as why:
@@ -70,11 +70,11 @@ def _in_signed_content(message: Found, source: Source, depth: int, mails: int) -
         found = iter((Found("", "signed content", Class.TOO_LARGE, len(octets), note=f"signed contents are nested more than {DEEPEST} deep"),))
     else:
         return
-    for it in found:
-        if it.what in (Class.TEXT, Class.NO_CANDIDATE, Class.EMPTY) or _is_something_else(it):
+    for place in found:
+        if place.what in (Class.TEXT, Class.NO_CANDIDATE, Class.EMPTY) or _is_something_else(place):
             continue
-        it = (it.with_content(None) if it.wants else it).within(_SIGNED_CONTENT)
-        yield it._replace(where=f"{message.where}!{it.where}") if message.where else it
+        place = (place.with_content(None) if place.wants else place).within(_SIGNED_CONTENT)
+        yield place._replace(where=f"{message.where}!{place.where}") if message.where else place
 
 
 def _content_of(message: Found) -> Optional[bytes]:
@@ -89,9 +89,9 @@ def _content_of(message: Found) -> Optional[bytes]:
     return bytes(read.content) if read.content else None
 
 
-def _is_something_else(it: Found) -> bool:
+def _is_something_else(found: Found) -> bool:
     """Whether what may be a message in signed content is none, as a certificate."""
-    return not it.where and it.what is Class.MESSAGE and it.octets is not None and not is_message(it.octets)
+    return not found.where and found.what is Class.MESSAGE and found.octets is not None and not is_message(found.octets)
 
 
 def _look_for(source: Source, depth: int, mails: int) -> Look:
@@ -208,9 +208,9 @@ def _in_utf_16(source: Source) -> Iterator[Found]:
 
 def _as_named(source: Source, octets: bytes, found: Iterator[Found]) -> Iterator[Found]:
     """Gives what is found, but a file with no message where one is due as such, so that its refusal is said."""
-    for it in found:
-        is_due = it.where == "" and it.what in (Class.TEXT, Class.NO_CANDIDATE) and source.name.lower().endswith(SIGNATURE_ENDINGS)
-        yield _message(source, octets) if is_due else it
+    for place in found:
+        is_due = place.where == "" and place.what in (Class.TEXT, Class.NO_CANDIDATE) and source.name.lower().endswith(SIGNATURE_ENDINGS)
+        yield _message(source, octets) if is_due else place
 
 
 def _message(source: Source, octets: bytes) -> Found:

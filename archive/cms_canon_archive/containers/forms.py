@@ -114,9 +114,9 @@ def form_of(octets: bytes, budget: Budget) -> Form:
     with _little_memory():
         try:
             pdf = pikepdf.open(BytesIO(octets), attempt_recovery=False)  # or it would look for objects in all octets
-            for it in _signatures_of(pikepdf, pdf):
+            for signature in _signatures_of(pikepdf, pdf):
                 budget.take_member()
-                signatures.append(it)
+                signatures.append(signature)
             packed = packed_in(pikepdf, pdf, octets, named, budget)
             has_others = packed.has_files and len(pdf.objects) > MOST_OBJECTS
             attached = list(_attached_to(pikepdf, pdf, budget, packed.has_files and not has_others))
@@ -140,10 +140,10 @@ def _attached_to(pikepdf: Any, pdf: Any, budget: Budget, has_files: bool) -> Ite
 
 def _in_objects(pikepdf: Any, pdf: Any) -> Iterator[Any]:
     """Gives what may specify files, as annotations and pages have them."""
-    for it in pdf.objects:
-        some = [it, *(_some(pikepdf, it, 1) if isinstance(it, pikepdf.Array) else ())]
-        if isinstance(it, pikepdf.Dictionary):
-            some += [*_some(pikepdf, it.get("/Annots"), 1), *_some(pikepdf, it.get("/AF"), 1)]
+    for thing in pdf.objects:
+        some = [thing, *(_some(pikepdf, thing, 1) if isinstance(thing, pikepdf.Array) else ())]
+        if isinstance(thing, pikepdf.Dictionary):
+            some += [*_some(pikepdf, thing.get("/Annots"), 1), *_some(pikepdf, thing.get("/AF"), 1)]
         for one in (it for it in some if isinstance(it, pikepdf.Dictionary)):
             yield one
             yield one.get("/FS")
@@ -182,15 +182,15 @@ def _some(pikepdf: Any, array: Any, most: int) -> List[Any]:
 def _streams_of(pikepdf: Any, specifications: Iterable[Any]) -> Iterator[Tuple[str, Any, Tuple[str, ...]]]:
     """Gives the streams of files, each once, with their names, and how they are packed. Raises `TooMany` if there are more than are read."""
     given: Set[Tuple[int, int]] = set()
-    for it in specifications:
-        embedded = it.get("/EF") if isinstance(it, pikepdf.Dictionary) else None
+    for specification in specifications:
+        embedded = specification.get("/EF") if isinstance(specification, pikepdf.Dictionary) else None
         for key in ("/UF", "/F") if isinstance(embedded, pikepdf.Dictionary) else ():
             stream = embedded.get(key)
             if isinstance(stream, pikepdf.Stream) and stream.objgen not in given:
                 given.add(stream.objgen)
                 if len(given) > MOST_ATTACHED:
                     raise TooMany(f"it has more than {MOST_ATTACHED:,} files attached, so that not all of them are looked into")
-                yield str(it.get("/UF", it.get("/F", "without name")))[:200], stream, _filters_of(pikepdf, stream)
+                yield str(specification.get("/UF", specification.get("/F", "without name")))[:200], stream, _filters_of(pikepdf, stream)
 
 
 def _filters_of(pikepdf: Any, stream: Any) -> Tuple[str, ...]:
@@ -237,15 +237,15 @@ def _values_of_fields(pikepdf: Any, root: Any) -> Iterator[Tuple[str, Any, str]]
         above, fields, is_top = left.pop()
         if isinstance(fields, pikepdf.Array) and len(fields) > MOST_FIELDS:
             raise TooMany(f"its form has more than {MOST_FIELDS:,} fields, so that not all of its signatures are known")
-        for it in fields if isinstance(fields, pikepdf.Array) else ():
-            if not isinstance(it, pikepdf.Dictionary) or it.is_indirect and it.objgen in seen:
+        for field in fields if isinstance(fields, pikepdf.Array) else ():
+            if not isinstance(field, pikepdf.Dictionary) or field.is_indirect and field.objgen in seen:
                 continue
-            seen.add(it.objgen if it.is_indirect else (-len(seen), 0))
+            seen.add(field.objgen if field.is_indirect else (-len(seen), 0))
             if len(seen) > MOST_FIELDS:
                 raise TooMany(f"its form has more than {MOST_FIELDS:,} fields, so that not all of its signatures are known")
-            name = ".".join(filter(None, (above, str(it.get("/T", "")))))
-            value, kids = it.get("/V"), it.get("/Kids")
-            is_known = it.get("/FT") == pikepdf.Name.Sig and (is_top or "/Parent" in it)
+            name = ".".join(filter(None, (above, str(field.get("/T", "")))))
+            value, kids = field.get("/V"), field.get("/Kids")
+            is_known = field.get("/FT") == pikepdf.Name.Sig and (is_top or "/Parent" in field)
             yield name, value, _FIELD_WITH_KIDS if kids is not None else "" if is_known else _ODD_FIELD
             left.append((name[:200], kids, False))
 

@@ -137,17 +137,17 @@ def numbered(found: Iterable[Found]) -> Iterator[Found]:
     """Gives what is found, and a place that was given before with a number: no two have one place. It keeps 64 bits of each place."""
     given: Set[int] = set()
     again: Dict[int, int] = {}
-    for it in found:
-        key = _key(it.where)
+    for place in found:
+        key = _key(place.where)
         if key in given:
             number = again.get(key, 1) + 1
-            while (other := _key(f"{it.where}#{number}")) in given:
+            while (other := _key(f"{place.where}#{number}")) in given:
                 number += 1
             again[key] = number
             given.add(other)
-            it = it._replace(where=f"{it.where}#{number}")
+            place = place._replace(where=f"{place.where}#{number}")
         given.add(key)
-        yield it
+        yield place
 
 
 def _key(where: str) -> int:
@@ -156,7 +156,7 @@ def _key(where: str) -> int:
 
 def counted(found: Iterable[Found], tally: Dict[str, int]) -> Iterator[Found]:
     """Gives what is found, and counts what may be a message."""
-    for it in found:
-        if it.what in (Class.MESSAGE, Class.CONTAINER):
+    for place in found:
+        if place.what in (Class.MESSAGE, Class.CONTAINER):
             tally["messages"] = tally.get("messages", 0) + 1
-        yield it
+        yield place

@@ -131,12 +131,12 @@ def _headers_in(head: bytes) -> List[bytes]:
     """Returns the headers that say what the content is. Raises `_Damaged` if one is too long, two say it differently, or there are too many."""
     wanted: List[bytes] = []
     said: Dict[bytes, bytes] = {}
-    for it in _HEADER.finditer(head):
-        if len(it[0]) > _LONGEST_HEADER:
+    for header in _HEADER.finditer(head):
+        if len(header[0]) > _LONGEST_HEADER:
             raise _Damaged("a header is too long")
-        wanted.append(it[0])
-        value = b"".join(it[0].partition(b":")[2].split())
-        if said.setdefault(it[1].lower(), value) != value:
+        wanted.append(header[0])
+        value = b"".join(header[0].partition(b":")[2].split())
+        if said.setdefault(header[1].lower(), value) != value:
             raise _Damaged("two headers say differently what the content is")
         if len(wanted) > _MOST_TYPES:
             raise _Damaged(f"more than {_MOST_TYPES} headers say what the content is")
@@ -345,10 +345,10 @@ class Mail:
             octets = _decoded(part)
             self._source.budget.take(len(octets))
             self._source.budget.take_steps()
-            for it in self._search(in_memory(_filename(part) or "", octets, self._source.budget)):
-                if it.what not in (Class.TEXT, Class.NO_CANDIDATE):
-                    notes = around.notes if it.what is Class.MESSAGE else ()
-                    yield (it.with_content(None) if it.wants else it).noted(*notes, _of_coding(part)).within(where or "body")
+            for place in self._search(in_memory(_filename(part) or "", octets, self._source.budget)):
+                if place.what not in (Class.TEXT, Class.NO_CANDIDATE):
+                    notes = around.notes if place.what is Class.MESSAGE else ()
+                    yield (place.with_content(None) if place.wants else place).noted(*notes, _of_coding(part)).within(where or "body")
 
     def _in_parts(self, where: str, part: _Part, depth: int, around: _Around) -> Iterator[Found]:
         if not part.boundary:

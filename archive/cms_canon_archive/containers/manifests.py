@@ -90,14 +90,14 @@ def _compared_files(listed: Sequence[Listed], there: AbstractSet[str], digest: D
     differs: List[str] = []
     unknown: List[str] = []
     left = set(there)
-    for it in listed:
-        left.discard(it.name)
-        known = [(algorithm, wanted) for algorithm, wanted in it.digests if algorithm is not None]
-        came = digest(it.name, {algorithm for algorithm, _ in known})
+    for file in listed:
+        left.discard(file.name)
+        known = [(algorithm, wanted) for algorithm, wanted in file.digests if algorithm is not None]
+        came = digest(file.name, {algorithm for algorithm, _ in known})
         if came is None or any(came[algorithm] != wanted for algorithm, wanted in known):
-            differs.append(it.name)
+            differs.append(file.name)
         elif not known:
-            unknown.append(it.name)
+            unknown.append(file.name)
     if differs:
         return Compared(State.DIFFERS, f"files that do not fit the manifest: {some_of(differs)}")
     if unknown:

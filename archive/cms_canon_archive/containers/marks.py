@@ -68,9 +68,9 @@ def _named(form: str, size: int, what: Class = Class.NOT_LOOKED_INTO, note: str 
 def by_beginning(source: Source) -> Optional[Found]:
     """Returns what a file is by how it begins."""
     head = source.head
-    for it in _BY_FIRST.get(head[0], ()) if head else ():
-        if head.startswith(it.begin) and it.rest.match(head, len(it.begin)):
-            return _named(it.form, source.size)
+    for mark in _BY_FIRST.get(head[0], ()) if head else ():
+        if head.startswith(mark.begin) and mark.rest.match(head, len(mark.begin)):
+            return _named(mark.form, source.size)
     return _named(_OLE_ENDINGS.get(source.name.lower()[-4:], "OLE document"), source.size) if head.startswith(_OLE) else None
 
 
@@ -104,10 +104,10 @@ def _ends_of_zip(octets: bytes, size: int) -> Iterator[Tuple[int, int]]:
     begin = max(0, len(octets) - _LONGEST_END)
     if octets.find(b"PK\5\6", begin) < 0:  # which costs much less than to search by a pattern
         return
-    for it in _END_OF_ZIP.finditer(octets, begin):
-        length, at, comment = (int.from_bytes(number, "little") for number in it.groups())
+    for end in _END_OF_ZIP.finditer(octets, begin):
+        length, at, comment = (int.from_bytes(number, "little") for number in end.groups())
         if length and length + at <= size:
-            yield it.start(), it.end() + comment
+            yield end.start(), end.end() + comment
 
 
 def ends_as_zip(octets: bytes, size: Optional[int] = None) -> bool:

@@ -384,11 +384,11 @@ class Tar:
                 yield from self._each(name, (it for it in found if it.what in (Class.MESSAGE, Class.CONTAINER)))
 
     def _each(self, name: str, found: Iterator[Found]) -> Iterator[Found]:
-        for it in found:
-            if it.what is Class.MESSAGE:
-                it = it.noted(differing(name, self._replaced.reason(name)))
-            wants, whole = it.wants, it.within(name)
-            octets = len(it.octets or b"")
+        for place in found:
+            if place.what is Class.MESSAGE:
+                place = place.noted(differing(name, self._replaced.reason(name)))
+            wants, whole = place.wants, place.within(name)
+            octets = len(place.octets or b"")
             if wants and self._octets_waiting + octets <= MOST_WAITING:
                 self._octets_waiting += octets
                 self._waiting.setdefault(path_of(wants), []).append(whole)

@@ -112,10 +112,10 @@ class _Ranges:
         self._octets = octets
         self.before = max(0, octets[:BEGINS_WITHIN].find(BEGIN))  # octets before the PDF, from where on readers may count
         taken = 0
-        for it in _RANGE.finditer(octets):
+        for named in _RANGE.finditer(octets):
             budget.take_member()
             taken += 1
-            self.outside += not self.add(tuple(map(int, it.groups())), *it.span())
+            self.outside += not self.add(tuple(map(int, named.groups())), *named.span())
         self.others = octets.count(b"/ByteRange") - taken
 
     def add(self, numbers: Sequence[int], at: int, after: int, of_form: Optional[FormSignature] = None) -> bool:
@@ -150,15 +150,15 @@ class _Ranges:
             yield Found("ByteRange", "PDF", Class.DAMAGED, 0, note="; ".join(notes))
 
 
-def _bound_of(octets: bytes, it: _Range) -> Tuple[State, str]:
+def _bound_of(octets: bytes, covered: _Range) -> Tuple[State, str]:
     """Returns what is to be said if the digests fit what a ByteRange covers: all of the file, a revision of it, or something else."""
-    if not octets[it.last :].strip(_BLANKS):
-        blanks = len(octets) - it.last
+    if not octets[covered.last :].strip(_BLANKS):
+        blanks = len(octets) - covered.last
         note = f"{blanks:,} blanks follow, which some readers take for a change" if blanks else ""
-        return State.PARTLY if it.first else State.FITS, note
-    note = f"{len(octets) - it.last:,} octets follow that it does not cover"
-    is_revision = octets[max(0, it.last - _NEAR) : it.last].rstrip(_BLANKS).endswith(_EOF)
-    is_covered = it.after <= it.last and not it.begin <= it.at < it.end
+        return State.PARTLY if covered.first else State.FITS, note
+    note = f"{len(octets) - covered.last:,} octets follow that it does not cover"
+    is_revision = octets[max(0, covered.last - _NEAR) : covered.last].rstrip(_BLANKS).endswith(_EOF)
+    is_covered = covered.after <= covered.last and not covered.begin <= covered.at < covered.end
     return (State.EARLIER if is_revision and is_covered else State.NO_REVISION), note
 
 
@@ -172,44 +172,45 @@ class _Pdf:
         self.form = form_of(self.octets, source.budget)
         self.refused = [(it, why) for it in self.form.signatures if (why := self._why_refused(it))]
 
-    def _why_refused(self, it: FormSignature) -> str:
+    def _why_refused(self, signature: FormSignature) -> str:
         """Adds the ByteRange of a signature of the form to those that were found. Returns why it cannot be used, if that is so."""
-        if not it.ranges:
-            return "the signature has no ByteRange of numbers" if it.has_range else "the signature has no ByteRange"
-        if len(it.ranges) != 4:
-            return f"the ByteRange of the signature has {len(it.ranges)} numbers, and not four"
-        return "" if self.ranges.add(it.ranges, len(self.octets), len(self.octets), it) else "the ByteRange of the signature lies outside of the file"
+        if not signature.ranges:
+            return "the signature has no ByteRange of numbers" if signature.has_range else "the signature has no ByteRange"
+        if len(signature.ranges) != 4:
+            return f"the ByteRange of the signature has {len(signature.ranges)} numbers, and not four"
+        is_inside = self.ranges.add(signature.ranges, len(self.octets), len(self.octets), signature)
+        return "" if is_inside else "the ByteRange of the signature lies outside of the file"
 
-    def why_unsure(self, it: _Range, padded: bytes) -> str:
+    def why_unsure(self, covered: _Range, padded: bytes) -> str:
         """Returns why readers may differ on a signature, or not show it; empty if that is not so."""
         if self.form.why_unsure:
             return self.form.why_unsure
-        if it.of_form is None:
+        if covered.of_form is None:
             return IN_NO_FIELD
-        return it.of_form.note if it.of_form.contents == padded else _OTHER_CONTENTS
+        return covered.of_form.note if covered.of_form.contents == padded else _OTHER_CONTENTS
 
     @property
     def before(self) -> str:
         """What is to be said of octets before the PDF: some readers count from there, and others from the beginning of the file."""
         return f"readers differ on the {self.ranges.before:,} octets before the PDF" if self.ranges.before else ""
 
-    def signature(self, where: str, it: _Range, message: bytes, more: str) -> Found:
+    def signature(self, where: str, covered: _Range, message: bytes, more: str) -> Found:
         """Returns a signature, of which more is to be said, with what it covers."""
-        name = self.subfilter(it)
+        name = self.subfilter(covered)
         if name == _NO_CMS and not is_message(message):
             return Found(where, f"PDF {name}", Class.OTHER, len(message), note="a signature of PKCS #1")
         view = memoryview(self.octets)
-        pieces = Pieces(view[it.first : it.begin], view[it.end : it.last])
-        bound, note = _bound_of(self.octets, it)
+        pieces = Pieces(view[covered.first : covered.begin], view[covered.end : covered.last])
+        bound, note = _bound_of(self.octets, covered)
         note = "; ".join(filter(None, (note, self.before, more)))
-        content = Content(it.where, it.begin - it.first + it.last - it.end, pieces, bound, note)
+        content = Content(covered.where, covered.begin - covered.first + covered.last - covered.end, pieces, bound, note)
         if name == _SHA1_INSIDE:
             digest = digest_of(pieces, "sha1")
-            content = Content(f"SHA-1 of {it.where}", len(digest), Pieces(digest), bound, note, is_due_inside=True)
+            content = Content(f"SHA-1 of {covered.where}", len(digest), Pieces(digest), bound, note, is_due_inside=True)
         return Found(where, f"PDF {name}", Class.MESSAGE, len(message), message, content, is_detached=True)
 
-    def subfilter(self, it: _Range) -> str:
-        return it.of_form.subfilter if it.of_form else _subfilter(self.octets, it.at, it.after, it.begin, it.end)
+    def subfilter(self, covered: _Range) -> str:
+        return covered.of_form.subfilter if covered.of_form else _subfilter(self.octets, covered.at, covered.after, covered.begin, covered.end)
 
     def in_hole(self, ranges: List[_Range]) -> Iterator[Found]:
         """Gives the signature in one hole once for each ByteRange that leaves it out. The first is next to it, and named by the hole alone."""
@@ -222,10 +223,10 @@ class _Pdf:
             return
         message = _cut(padded)
         more = "something else than zeros follows the message in /Contents" if padded[len(message) :].strip(b"\0") else ""
-        for it in ranges[:MOST_OF_A_HOLE]:
-            self.budget.take(len(self.octets) if it is not first else 0)
-            notes = "; ".join(filter(None, (more, self.why_unsure(it, padded))))
-            yield self.signature(where if it is first else f"{where} to {it.last}", it, message, notes)
+        for covered in ranges[:MOST_OF_A_HOLE]:
+            self.budget.take(len(self.octets) if covered is not first else 0)
+            notes = "; ".join(filter(None, (more, self.why_unsure(covered, padded))))
+            yield self.signature(where if covered is first else f"{where} to {covered.last}", covered, message, notes)
         if len(ranges) > MOST_OF_A_HOLE:
             note = f"{len(ranges):,} ByteRanges leave out one hole, of which {MOST_OF_A_HOLE:,} are read"
             yield Found(f"{where} to others", "PDF", Class.TOO_LARGE, 0, note=note)
@@ -246,16 +247,16 @@ class _Inflated(RawIOBase):
 
 def _in_attachments(source: Source, form: Form, search: Search) -> Iterator[Found]:
     """Gives what is in the files that are attached."""
-    for it in attachments_of(form, source.budget):
-        place = f"attachment {it.name}"
-        if it.filters not in ((), ("FlateDecode",)):
-            yield Found(place, "PDF", Class.NOT_LOOKED_INTO, len(it.octets), note=f"an attachment that is packed by {' and '.join(it.filters)}")
+    for attached in attachments_of(form, source.budget):
+        place = f"attachment {attached.name}"
+        if attached.filters not in ((), ("FlateDecode",)):
+            yield Found(place, "PDF", Class.NOT_LOOKED_INTO, len(attached.octets), note=f"an attachment that is packed by {' and '.join(attached.filters)}")
             continue
-        file: Readable = _Inflated(it.octets) if it.filters else BytesIO(it.octets)
+        file: Readable = _Inflated(attached.octets) if attached.filters else BytesIO(attached.octets)
         try:
-            yield from _in_attachment(place, search(source.inner(it.name, file, 0 if it.filters else len(it.octets))))
+            yield from _in_attachment(place, search(source.inner(attached.name, file, 0 if attached.filters else len(attached.octets))))
         except zlib.error as why:
-            yield Found(place, "PDF", Class.DAMAGED, len(it.octets), note=str(why))
+            yield Found(place, "PDF", Class.DAMAGED, len(attached.octets), note=str(why))
     if form.has_others:
         yield Found("attachments", "PDF", Class.NOT_LOOKED_INTO, 0, note=f"files that are attached to pages: it has more than {MOST_OBJECTS:,} objects")
 

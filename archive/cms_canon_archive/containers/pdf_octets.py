@@ -49,11 +49,11 @@ def named_in(octets: bytes, most_packed: int) -> Named:
     """Returns what names say, with at most so many numbers and one more."""
     is_hybrid = has_files = False
     packed: List[Optional[int]] = []
-    for it in _NAMES.finditer(octets):
-        is_hybrid |= it.lastgroup == "hybrid"
-        has_files |= it.lastgroup == "files"
-        if it.lastgroup == "packed" and len(packed) <= most_packed:
-            packed.append(_number_before(octets, it.start()))
+    for name in _NAMES.finditer(octets):
+        is_hybrid |= name.lastgroup == "hybrid"
+        has_files |= name.lastgroup == "files"
+        if name.lastgroup == "packed" and len(packed) <= most_packed:
+            packed.append(_number_before(octets, name.start()))
     return Named(is_hybrid, list(dict.fromkeys(packed)), has_files)
 
 

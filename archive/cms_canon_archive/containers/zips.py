@@ -282,9 +282,9 @@ def _opened(source: Source, file: BinaryIO, end: End) -> zipfile.ZipFile:
     whole = io.BytesIO(octets)
     opened = zipfile.ZipFile(whole)
     with whole.getbuffer() as view:
-        for it in opened.infolist():
-            place = it.header_offset + 7  # of the flags before the member itself
-            if not it.flag_bits & _UTF_8 and place < len(view):
+        for info in opened.infolist():
+            place = info.header_offset + 7  # of the flags before the member itself
+            if not info.flag_bits & _UTF_8 and place < len(view):
                 view[place] &= ~(_UTF_8 >> 8) & 0xFF
     return opened
 
@@ -337,13 +337,13 @@ def _in_other(whole: _Zip, name: str, info: zipfile.ZipInfo, search: Search) -> 
     """Gives what another member is. If the zip is signed as one file, only members in which there is something are said."""
     is_said = whole.form == "zip"
     with whole.opened(info) as member:
-        for it in search(whole.source.inner(name, member, info.file_size)):
-            if it.wants:
-                it = it.with_content(_content_for(whole, plain(it.wants)))
-            if it.what is Class.MESSAGE:
-                it = it.noted(whole.reason(name), _OF_PACKAGE if name == _PACKAGE_SIGNATURE else "")
-            if is_said or it.what not in (Class.TEXT, Class.NO_CANDIDATE):
-                yield it.within(name)
+        for place in search(whole.source.inner(name, member, info.file_size)):
+            if place.wants:
+                place = place.with_content(_content_for(whole, plain(place.wants)))
+            if place.what is Class.MESSAGE:
+                place = place.noted(whole.reason(name), _OF_PACKAGE if name == _PACKAGE_SIGNATURE else "")
+            if is_said or place.what not in (Class.TEXT, Class.NO_CANDIDATE):
+                yield place.within(name)
 
 
 def _content_for(whole: _Zip, name: str) -> Optional[Content]:
