@@ -33,7 +33,7 @@ RATTLE = "".join(it.read_text() for it in sorted(TOP.glob("crates/*/src/*.rt")))
 
 NARROW = [
     *(f"docs/{it}.md" for it in ("ARCHITECTURE", "AUDITING", "DECISIONS", "FORMATS", "TRUST")), "bench/RESULTS.md",
-    "archive/README.md", "archive/docs/ARCHIVE.md", "archive/docs/SCALE.md",
+    *(f"archive/{it}.md" for it in ("README", "bench/RESULTS", "docs/ARCHIVE", "docs/SCALE")),
 ]
 CLAUSE = re.compile(r" *(?:ensures|requires|ghost) (?!use )")
 KINDS = TOP / "crates" / "cms_rows" / "src" / "kinds.rt"

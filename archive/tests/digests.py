@@ -5,6 +5,7 @@
 """
 
 import json
+import re
 import shutil
 import sys
 from pathlib import Path
@@ -66,6 +67,7 @@ def judge_damaged(home, folder):
         "numbers that are too large": (bucket.name, lambda octets: b"".join(octets[it : it + 8] + b"\xff" * 8 for it in range(0, len(octets), 16))),
         "another form": ("about.json", lambda octets: octets.replace(b'"form": 1', b'"form": 2')),
         "no JSON": ("about.json", lambda octets: b"{"),
+        "no number of rows": ("about.json", lambda octets: re.sub(rb'"rows": \d+', b'"rows": null', octets)),
     }
     for name, (file, change) in changes.items():
         other = home / "damaged"
