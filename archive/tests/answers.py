@@ -141,7 +141,7 @@ def judge_weak(home, make):
     make.run("openssl req -x509 -newkey rsa:2048 -sha1 -nodes -keyout old.key -out old.pem -subj /CN=Old -days 1")
     by_old = make.run("openssl cms -sign -binary -nodetach -signer old.pem -inkey old.key -md sha256 -outform DER", octets=DOCUMENT)
     (make.folder / "query").write_bytes(make.run(f"openssl ts -query -digest {hashlib.sha1(DOCUMENT).hexdigest()} -sha1 -cert"))
-    settings = (TOP / "tests" / "data" / "time-stamping.cnf").read_text()
+    settings = (ARCHIVE / "tests" / "data" / "time-stamping.cnf").read_text()
     write_files(make.folder, {"sha1.cnf": re.sub(r"(?m)^(digests *=.*)$", r"\1, sha1", settings).encode()})
     stamp = make.run("openssl ts -reply -queryfile query -token_out -config sha1.cnf")
     members = {"old.p7m": by_old, "doc.tst": stamp, "doc": DOCUMENT, "md5.jar": made_jar(make, {"doc": DOCUMENT}, "MD5", "md5"),

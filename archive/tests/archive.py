@@ -436,9 +436,9 @@ def judge_absent(home, folder, whole, url):
 def judge_without_packages(home):
     """If a package is missing, the command says which in one line: `-S` leaves out those that are installed."""
     words = [sys.executable, "-S", "-m", "cms_canon_archive", "--help"]
-    it = subprocess.run(words, env=environment_of(home), cwd=home, capture_output=True, text=True, timeout=SECONDS)
+    done = subprocess.run(words, env=environment_of(home), cwd=home, capture_output=True, text=True, timeout=SECONDS)
     wanted = (1, "", "Error: this needs the package click, which is installed with cms-canon-archive by pip and by apt-get\n")
-    count_same("a package that is missing", (it.returncode, it.stdout, it.stderr), wanted)
+    count_same("a package that is missing", (done.returncode, done.stdout, done.stderr), wanted)
 
 
 def judge_hidden(home, one):

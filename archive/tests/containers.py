@@ -37,7 +37,7 @@ from typing import Dict, Iterator, NamedTuple, Tuple
 from unittest import mock
 
 from archive import SECONDS, count, count_if, count_same, judged_in_a_copy, modules_of, tally, tarred, write_files, zipped
-from places import TOP
+from places import ARCHIVE
 from elements import element, element_at
 
 SEED = 5083
@@ -96,7 +96,7 @@ class Maker:
 
     def stamp(self, octets, *more) -> bytes:
         (self.folder / "query").write_bytes(self.query(octets))
-        return self.run("openssl ts -reply -queryfile query -config", TOP / "tests" / "data" / "time-stamping.cnf", *more)
+        return self.run("openssl ts -reply -queryfile query -config", ARCHIVE / "tests" / "data" / "time-stamping.cnf", *more)
 
     def token(self, octets) -> bytes:
         return self.stamp(octets, "-token_out")
@@ -1023,7 +1023,7 @@ def judge_large_contents(archive, cases: Dict[str, Case], make) -> None:
 
 def judge_contents_beside(archive, make) -> None:
     """What cannot be compared with a long document, as a digest that `hashlib` does not make, is not said to fit, and stops nothing."""
-    long, new, responses = bytes(1 << 20), hashlib.new, tomllib.loads((TOP / "tests" / "data" / "responses.toml").read_text())
+    long, new, responses = bytes(1 << 20), hashlib.new, tomllib.loads((ARCHIVE / "tests" / "data" / "responses.toml").read_text())
     token, truncated = make.cms(DOCUMENT, "-econtent_type", TST_INFO), make.cms(long, "-md", "sha512-256")
 
     def lacking(name, *more, **others):
@@ -1078,10 +1078,10 @@ def judge_headers(archive, random: Random) -> None:
 
 def _said_of_header(kind, header: bytes):
     try:
-        it = kind.frombuf(header, "utf-8", "surrogateescape")
+        member = kind.frombuf(header, "utf-8", "surrogateescape")
     except (tarfile.HeaderError, ValueError) as error:
         return type(error).__name__, str(error)
-    return it.name, it.size, it.type, it.chksum, it.isfile(), it.isdir(), it.issparse()
+    return member.name, member.size, member.type, member.chksum, member.isfile(), member.isdir(), member.issparse()
 
 
 def judge_copy(home: Path) -> None:

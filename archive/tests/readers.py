@@ -36,7 +36,7 @@ from collections import Counter
 from dataclasses import dataclass, field, replace
 from pathlib import Path
 from random import Random
-from typing import Callable, Dict, FrozenSet, Iterable, Iterator, List, NamedTuple, Optional, Set, Tuple
+from typing import Callable, Dict, Iterable, List, NamedTuple, Optional, Set, Tuple
 
 from archive import SECONDS, count, count_if, count_same, ended, judged_in_a_copy, modules_of, ran, tally, write_files
 from containers import DOCUMENT, FITS, Maker, made_jar, manifest, said_of, section, unzipped
@@ -259,8 +259,8 @@ class Zip:
             octets_64 = struct.pack("<4sQ2H2L4Q", b"PK\6\6", 44, 45, 45, 0, 0, number, number, len(listed), begins[last])
             octets_64 += struct.pack("<4sLQL", b"PK\6\7", 0, at, 1)
         listed, number = lists[first]
-        it = {"number": number, "octets": len(listed), "begin": begins[first], **self.end}
-        return octets_64 + struct.pack("<4s4H2LH", b"PK\5\6", 0, 0, it["number"], it["number"], it["octets"], it["begin"], len(self.comment))
+        said = {"number": number, "octets": len(listed), "begin": begins[first], **self.end}
+        return octets_64 + struct.pack("<4s4H2LH", b"PK\5\6", 0, 0, said["number"], said["number"], said["octets"], said["begin"], len(self.comment))
 
 
 def fresh(members: List[Member]) -> List[Member]:
@@ -557,9 +557,9 @@ def _sized(entries: Entries, name: bytes, random: Random) -> None:
 
 
 def _changed_header(entries: Entries, name: bytes, random: Random) -> None:
-    it = random.choice(entries)
+    entry = random.choice(entries)
     places = [random.choice((random.randrange(512), random.randrange(100, 160), random.randrange(257, 265), random.randrange(345, 512))) for _ in range(2)]
-    it.changes = tuple((place, random.choice((0, 32, 48, 49, 55, 0x80, 0xFF, 120))) for place in places)
+    entry.changes = tuple((place, random.choice((0, 32, 48, 49, 55, 0x80, 0xFF, 120))) for place in places)
 
 
 def _of_another_form(entries: Entries, name: bytes, random: Random) -> None:

@@ -54,9 +54,9 @@ class _Section(NamedTuple):
         """Returns the digests of what follows `-Digest` in the name of an attribute."""
         found = []
         for key, value in self.attributes:
-            it = _DIGEST.match(key)
-            if it and (it["what"] or "").lower() == what:
-                found.append((algorithm_of(it["algorithm"]), _decoded(value)))
+            named = _DIGEST.match(key)
+            if named and (named["what"] or "").lower() == what:
+                found.append((algorithm_of(named["algorithm"]), _decoded(value)))
         return tuple(found)
 
 
@@ -102,8 +102,8 @@ def is_signed(names: Dict[str, str]) -> bool:
 
 def stem_of(name: str) -> Optional[str]:
     """Returns the name of the signature file for a block; None if the name is not that of a block."""
-    it = _BLOCK.match(name)
-    return f"META-INF/{it[1]}.SF" if it else None
+    block = _BLOCK.match(name)
+    return f"META-INF/{block[1]}.SF" if block else None
 
 
 def due_of(names: Iterable[str]) -> FrozenSet[str]:

@@ -262,9 +262,9 @@ def _in_attachments(source: Source, form: Form, search: Search) -> Iterator[Foun
 
 
 def _in_attachment(place: str, found: Iterator[Found]) -> Iterator[Found]:
-    for it in found:
-        if it.what not in (Class.TEXT, Class.NO_CANDIDATE):
-            yield (it.with_content(None) if it.wants else it).within(place)
+    for one in found:
+        if one.what not in (Class.TEXT, Class.NO_CANDIDATE):
+            yield (one.with_content(None) if one.wants else one).within(place)
 
 
 def in_pdf(source: Source, search: Search) -> Iterator[Found]:

@@ -17,7 +17,7 @@ from .layout import ENTRY_MAGIC, LOCATORS, End, Layout, end_of, layout_of
 from .manifests import Compared, at_best, compared, not_covered, plain, said_of
 from .names import READERS_DIFFER, differing
 from .packed import Damaged, content_read, why_of
-from .sources import MOST_IN_MEMORY, PIECE, Budget, Ended, Source, TooLarge
+from .sources import MOST_IN_MEMORY, PIECE, Ended, Source, TooLarge
 
 Search = Callable[[Source], Iterator[Found]]
 
