@@ -67,7 +67,7 @@ BEGIN
     IF NOT {is_owner} AND EXISTS (
         SELECT FROM (SELECT sent.*, coalesce(whole, path) AS place FROM sent) AS told WHERE state <> 0 OR is_stored OR holder IS NOT NULL OR chunks > {chunks}
         OR name IN ('.', '..') OR strpos(name, '/') > 0 OR whole IS NOT NULL AND NOT (starts_with(whole, left(path, length(path) - {ending}))
-            AND right(path, {ending}) = '\...' || encode(sha256(convert_to(rtrim(whole, '/'), 'UTF8')), 'hex') || '/') OR NOT EXISTS (
+            AND right(path, {ending}) = '\\...' || encode(sha256(convert_to(rtrim(whole, '/'), 'UTF8')), 'hex') || '/') OR NOT EXISTS (
             SELECT FROM (SELECT parts.*, coalesce(whole, path) AS place FROM parts WHERE state = 1 AND name = '' AND holder IN (SELECT archive_held())) AS own
                 WHERE own.top = told.top AND own.anew = told.anew AND own.verifies = told.verifies
                 AND (own.place = told.place AND own.path = told.path AND (told.name <> '' OR told.chunk > 0)

@@ -423,6 +423,7 @@ class Session:
                 after = sa.case((PARTS.c.again, int(PartState.TO_DO)), else_=int(state))
                 values = {"state": after, "again": False, "tries": 0, "doing": None, "is_stored": True, "files": files}
                 connection.execute(sa.update(PARTS).where(PARTS.c.id.in_([it.part.id for it in done])).values(**values))
+
     def _is_stray(self, connection: sa.engine.Connection, part: Held) -> bool:
         """Whether a folder is not divided into so many parts, as a worker that lies may have said."""
         first = (PARTS.c.path == part.path) & (PARTS.c.name == "") & (PARTS.c.chunk == 0)

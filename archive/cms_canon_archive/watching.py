@@ -133,5 +133,3 @@ def given_up(connection: sa.engine.Connection) -> Iterator[str]:
     """Gives the paths of the parts that were given up."""
     for path, name in connection.execute(sa.select(PARTS.c.path, PARTS.c.name).where(IS_GIVEN_UP).order_by(PARTS.c.path, PARTS.c.name)):
         yield f"{path}{name}"
-
-

@@ -32,7 +32,7 @@ SLOWEST = 2 / 10e6  # seconds an octet
 OF_A_MESSAGE = 0.3e-3  # seconds
 LEAST = 2  # seconds that any container may take
 MANIFEST = "META-INF/MANIFEST.MF"
-READING = """
+READING = r"""
 import importlib, importlib.util, json, re, sys, time
 if importlib.util.find_spec("pikepdf"):  # which takes memory once
     importlib.import_module("pikepdf")

@@ -110,4 +110,3 @@ def in_base64(source: Source) -> Optional[Found]:
         return None
     octets = _decoded(source.octets()[len(source.head) - len(head) :])
     return None if octets is None or octets[:1] != b"\x30" else _candidate("", "base64", octets, source.name)
-
