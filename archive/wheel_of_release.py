@@ -1,4 +1,4 @@
-"""The hooks that pip calls (PEP 517) for `pip install archive`: they make the wheel that `scripts/release` also makes. Why there are such hooks,
+"""The hooks that pip calls (PEP 517) for `pip install ./archive`: they make the wheel that `scripts/release` also makes. Why there are such hooks,
 bindings/python/wheel_of_release.py says.
 """
 
