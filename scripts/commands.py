@@ -1,4 +1,4 @@
-"""Lists the scripts of scripts/, tests/ and bench/: how each is called, and the first sentence that it says of itself.
+"""Lists the scripts of scripts/, and those of tests/ and bench/, here and in archive/: how each is called, and the first sentence that it says of itself.
 
     python3 scripts/commands.py
 
@@ -40,7 +40,8 @@ def commands() -> Iterator[Script]:
 
 def tests_and_benches() -> Iterator[Script]:
     """Gives each test and each bench. Raises `SystemExit` if one does not say how it is called."""
-    for file in sorted([*TOP.glob("tests/*.py"), *TOP.glob("bench/*.py")], key=lambda it: (it.parent.name != "tests", it.name)):
+    files = [it for folder in ("", "archive/") for kind in ("tests", "bench") for it in sorted(TOP.glob(f"{folder}{kind}/*.py"))]
+    for file in files:
         text = file.read_text(encoding="utf-8")
         said = ast.get_docstring(ast.parse(text), clean=False) or ""
         called = CALLED.search(said)

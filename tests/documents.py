@@ -68,7 +68,8 @@ def check_links(tally):
         tally.count(f"{document.relative_to(TOP)}: links", "; ".join(filter(None, (why_broken(document, it) for it in links))))
     index = (TOP / "docs" / "README.md").read_text(encoding="utf-8")
     missing = [it.name for it in sorted((TOP / "docs").glob("*.md")) if f"({it.name})" not in index and it.name != "README.md"]
-    tally.count("docs/README.md: documents", ", ".join(missing))
+    of_archive = [it.relative_to(TOP).as_posix() for it in sorted((TOP / "archive").glob("**/*.md"))]
+    tally.count("docs/README.md: documents", ", ".join([*missing, *(it for it in of_archive if f"(../{it})" not in index)]))
 
 
 def check_copies(tally):

@@ -31,7 +31,10 @@ from promises import complaints as complaints_between_edits  # noqa: E402
 
 RATTLE = "".join(it.read_text() for it in sorted(TOP.glob("crates/*/src/*.rt")))
 
-NARROW = [*(f"docs/{it}.md" for it in ("ARCHITECTURE", "AUDITING", "DECISIONS", "FORMATS", "SCALE", "TRUST")), "bench/RESULTS.md"]
+NARROW = [
+    *(f"docs/{it}.md" for it in ("ARCHITECTURE", "AUDITING", "DECISIONS", "FORMATS", "TRUST")), "bench/RESULTS.md",
+    *(f"archive/{it}.md" for it in ("README", "bench/RESULTS", "docs/ARCHIVE", "docs/SCALE")),
+]
 CLAUSE = re.compile(r" *(?:ensures|requires|ghost) (?!use )")
 KINDS = TOP / "crates" / "cms_rows" / "src" / "kinds.rt"
 # An identifier octet as a number: 80 and those after it are such only in a type, as they are length octets too.
@@ -71,7 +74,7 @@ def complaints_of_surface():
 def complaints_of_kits():
     """Yields each document that names another kit than the one of the release."""
     kit = re.search(r"^kit: (\S+)", (TOP / "dist" / "x86_64-linux" / "MANIFEST").read_text(), re.M)[1]
-    for file in (*sorted(TOP.glob("*.md")), *sorted(TOP.glob("docs/*.md"))):
+    for file in (*sorted(TOP.glob("*.md")), *sorted(TOP.glob("docs/*.md")), *sorted(TOP.glob("archive/**/*.md"))):
         for said in sorted(set(re.findall(r"rattle-kit-\w+", file.read_text())) - {kit}):
             yield f"{file.relative_to(TOP)}: {said}, and the release is made by {kit}"
 
@@ -335,9 +338,10 @@ def complaints_of_versions():
 
 
 def complaints_of_dates():
-    """Yields each heading of a version in the changelog that has no date, or a later one than the heading above it."""
-    above = "9999-12-31"
-    for heading in re.findall(r"^## .*$", (TOP / "CHANGELOG.md").read_text(), re.M):
+    """Yields each heading of a version in the changelog that has no date, or a later one than the heading above it. What is above all versions is to be
+    released with the next one."""
+    above, headings = "9999-12-31", re.findall(r"^## .*$", (TOP / "CHANGELOG.md").read_text(), re.M)
+    for heading in headings[headings[:1] == ["## Unreleased"] :]:
         if not (dated := re.fullmatch(r"## \d+\.\d+\.\d+ - (\d{4}-\d\d-\d\d)", heading)):
             yield f"CHANGELOG.md: {heading} has no date, as 2026-11-27"
         elif dated[1] > above:

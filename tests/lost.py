@@ -24,7 +24,7 @@ sys.path.insert(0, str(TOP / "scripts"))
 from promises import Edit, promises_without_edits  # noqa: E402
 
 PAGE = "docs/PROMISES.md"
-PARTS = ("crates", PAGE, "tests", "bindings")
+PARTS = ("crates", PAGE, "tests", "bindings", "archive")
 FROM_EDITS = re.compile(r"<!-- promises of .*?<!-- the end of these promises -->", re.S)
 # What the heads of edits say for the first two cells of a row by hand, by the first column of its table.
 SAID = {"promise": "{0}", "calls": "Faults of {0}: {1}", "reason": "The octets taken at {0}: {1}"}

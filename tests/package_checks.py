@@ -22,26 +22,29 @@ DER = "775ae1a53429e41657540f3eed96a76ed2cab8b85994bd7455b0c6903251161d"  # of e
 PAGE = 4096  # octets
 JAVA_17 = 61  # as a class says it
 OLDEST_GLIBC = (2, 17)  # that the name of the wheel promises
+OWN = {*sys.stdlib_module_names, "cms_canon"}  # what a package imports without asking for others
 
 LIBRARIES, MODULES = "usr/lib/x86_64-linux-gnu", "usr/lib/python3/dist-packages"
 READ = tomllib.loads((TOP / "tests" / "data" / "packages.toml").read_text().replace("@VERSION@", VERSION))
-DEBIAN = READ["debian"]
+DEBIAN, WHEELS = READ["debian"], READ["wheels"]
 
 
 def source_of(name):
     return (TOP / name).read_bytes()
 
 
-def expected_modules():
-    files = [it for it in (TOP / "bindings" / "python" / "cms_canon").rglob("*") if it.is_file() and it.parent.name != "__pycache__"]
-    return {it.relative_to(TOP / "bindings" / "python").as_posix(): it.read_bytes() for it in files}
+def expected_modules(package):
+    """Returns the files of a package of Python, and what is packed with them, by where they come from in the repository."""
+    folder = TOP / package
+    files = [it for it in folder.rglob("*") if it.is_file() and it.parent.name != "__pycache__"]
+    return {it.relative_to(folder.parent).as_posix(): it.relative_to(TOP).as_posix() for it in files}
 
 
 def check_members(tally, found):
     dates = (f" {int(DATE.timestamp())}", str(DATE.timetuple()[:6]))
     other = sorted(path for path, it in found.items() if it.owner and not it.owner.endswith(dates))
     tally.count("dates of all files", differing([], other[:5]))
-    for check in (check_debian, check_texts, check_symbols, check_imports, check_wheel, check_jar):
+    for check in (check_debian, check_texts, check_symbols, check_imports, check_wheels, check_jar):
         check(tally, found)
 
 
@@ -49,8 +52,8 @@ def check_debian(tally, found):
     for package, expected in DEBIAN.items():
         name = f"{package}_{VERSION}-1_{expected['architecture']}.deb"
         own, documents = inside(found, name), [f"usr/share/doc/{package}/{it}" for it in ("copyright", "changelog.Debian.gz", "changelog.gz")]
-        links, modules = expected.get("links", {}), expected_modules() if package.startswith("python3-") else ()
-        wanted = {**expected["files"], **links, **dict.fromkeys(documents, ""), **{f"{MODULES}/{path}": f"python/{path}" for path in modules}}
+        links, modules = expected.get("links", {}), expected_modules(expected["modules"]) if "modules" in expected else {}
+        wanted = {**expected["files"], **links, **dict.fromkeys(documents, ""), **{f"{MODULES}/{path}": source for path, source in modules.items()}}
         there = {path for path, it in own.items() if it.kind != "folder" and "DEBIAN/" not in path and "!" not in path}
         tally.count(f"{name}: files", differing([], sorted({*wanted} ^ there)))
         for path in sorted({*wanted} & there):
@@ -64,7 +67,7 @@ def check_debian(tally, found):
         tally.count(f"{name}: what dpkg runs and reads", differing(expected.get("control", []), sorted(scripts)))
         control, depends = own["DEBIAN/control"].octets.decode(), expected["depends"].replace("SAME", f"(= {VERSION}-1)")
         lines = (f"Package: {package}", f"Version: {VERSION}-1", f"Architecture: {expected['architecture']}", "Priority: optional")
-        for line in (*lines, f"Depends: {depends}"):
+        for line in (*lines, f"Depends: {depends}", *(f"{field}: {value}" for field, value in expected.get("beside", {}).items())):
             tally.count(f"{name}: {line}", "" if line in control.splitlines() else f"{control!r}")
         tally.count(f"{name}: what is filled in", "there is a place left" if re.search("@[A-Z_]+@", control) else "")
         notices, debian_changelog, changelog = (own[it].octets.decode() for it in documents)
@@ -91,8 +94,8 @@ def is_mode_right(path, member):
 
 def check_texts(tally, found):
     """Checks the texts that are made for Debian: the manual pages and the file for pkg-config."""
-    for name, page in (("cms-canon", "cms-canon"), ("python3-cms-canon", "cms-canon-archive")):
-        text = found[f"{name}_{VERSION}-1_amd64.deb!usr/share/man/man1/{page}.1.gz"].octets.decode()
+    for page in ("cms-canon", "cms-canon-archive"):
+        text = found[f"{page}_{VERSION}-1_{DEBIAN[page]['architecture']}.deb!usr/share/man/man1/{page}.1.gz"].octets.decode()
         tally.count(f"manual of {page}", "" if f'.TH {page.upper()} 1 "" "cms-canon {VERSION}" "User Commands"\n' in text else "no version")
     config = found[f"libcms-canon-dev_{VERSION}-1_amd64.deb!{LIBRARIES}/pkgconfig/cms_canon.pc"].octets.decode()
     lines = {"prefix=/usr", "libdir=${prefix}/lib/x86_64-linux-gnu", f"Version: {VERSION}"}
@@ -111,59 +114,113 @@ def check_symbols(tally, found):
     tally.count("symbols of the library", differing(sorted(re.findall(r"GLOBAL +DEFAULT +\d+ (\w+)$", shown, re.M)), sorted(listed)))
 
 
-def check_imports(tally, found):
-    """Checks that what the archive imports is named by the package for Debian and by the extra of the wheel."""
-    control = found[f"python3-cms-canon_{VERSION}-1_amd64.deb!DEBIAN/control"].octets.decode()
-    named = {*re.findall(r"python3-\w+", " ".join(re.findall(r"^(?:Depends|Recommends|Suggests): (.*)$", control, re.M)))}
-    metadata = next(it.octets.decode() for path, it in found.items() if path.endswith(".whl!" + about("METADATA")))
-    extra = {*re.findall(r'^Requires-Dist: (\S+) .*; extra == "archive"$', metadata, re.M)}
+def imports_of(file, whole):
+    """Returns the names of the modules that a file imports, with a dot before those beside it; without `whole`, those that it imports at once."""
+    tree = ast.parse(file.read_text(encoding="utf-8"))
     names = set()
-    for file in (TOP / "bindings" / "python" / "cms_canon" / "archive").rglob("*.py"):
-        for node in ast.walk(ast.parse(file.read_text(encoding="utf-8"))):
-            if isinstance(node, ast.Import):
-                names |= {it.name.partition(".")[0] for it in node.names}
-            elif isinstance(node, ast.ImportFrom) and node.level == 0:
-                names.add(node.module.partition(".")[0])
-    for module in sorted(names - {*sys.stdlib_module_names, "cms_canon"}):
+    for node in ast.walk(tree) if whole else tree.body:
+        if isinstance(node, ast.Import):
+            names |= {it.name.partition(".")[0] for it in node.names}
+        elif isinstance(node, ast.ImportFrom) and node.level == 0:
+            names.add(node.module.partition(".")[0])
+        elif isinstance(node, ast.ImportFrom):
+            names |= {"." * node.level + it for it in ([node.module] if node.module else [it.name for it in node.names])}
+    return names
+
+
+def imported_by(package):
+    """Returns the modules of others that a package of Python imports."""
+    return {name for file in (TOP / package).rglob("*.py") for name in imports_of(file, whole=True) if not name.startswith(".")} - OWN
+
+
+def imported_at_once(file):
+    """Returns the modules of others that are imported with a module of a package, and with those beside it that it imports at once."""
+    seen, waiting, names = set(), [file], set()
+    while waiting:
+        file = waiting.pop()
+        seen.add(file)
+        for name in imports_of(file, whole=False):
+            if not name.startswith("."):
+                names.add(name)
+                continue
+            folder = file.parents[len(name) - len(name.lstrip(".")) - 1]
+            beside = folder.joinpath(*name.lstrip(".").split("."))
+            waiting += [it for it in (beside.with_suffix(".py"), beside / "__init__.py") if it.exists() and it not in seen]
+    return names - OWN
+
+
+def named_in_control(text, *fields):
+    return {*re.findall(r"python3-\w+", " ".join(re.findall(rf"^(?:{'|'.join(fields)}): (.*)$", text, re.M)))}
+
+
+def check_imports(tally, found):
+    """Checks that what the archive imports is named by its package for Debian and by its wheel, and what it begins with is asked for by both; and that
+    `cms_canon` has none of it."""
+    control, control_of_binding = (
+        found[f"{it}_{VERSION}-1_{DEBIAN[it]['architecture']}.deb!DEBIAN/control"].octets.decode() for it in ("cms-canon-archive", "python3-cms-canon")
+    )
+    metadata_of_binding, metadata = (found[f"{name}!{about(wheel, 'METADATA')}"].octets.decode() for name, wheel in WHEELS.items())
+    required, named = {*re.findall(r"^Requires-Dist: (\S+) [^;\n]*$", metadata, re.M)}, {*re.findall(r"^Requires-Dist: (\S+) .*$", metadata, re.M)}
+    depends, also = named_in_control(control, "Depends"), named_in_control(control, "Depends", "Recommends", "Suggests")
+    modules, at_once = imported_by("archive/cms_canon_archive"), imported_at_once(TOP / "archive" / "cms_canon_archive" / "command.py")
+    tally.count("imports at the start", "" if at_once and at_once < modules else f"{at_once}")
+    for module in sorted(modules):
         debian, python = READ["modules"].get(module, (None, None))
-        is_well = debian in named and python in extra
-        why = "a package for Debian, or the extra archive, does not name where it comes from"
-        tally.count(f"import of {module}", "" if is_well else why)
+        is_well = debian in also and python in named
+        tally.count(f"import of {module}", "" if is_well else "the package for Debian, or the wheel, does not name where it comes from")
+    for module in sorted(at_once):
+        debian, python = READ["modules"].get(module, (None, None))
+        is_well = debian in depends and python in required
+        tally.count(f"import of {module} at the start", "" if is_well else "the package for Debian, or the wheel, can be installed without it")
+    of_binding = imported_by("bindings/python/cms_canon")
+    tally.count("imports of cms_canon", differing(["cryptography"], sorted(of_binding)))
+    words = {word.lower() for module in modules - {"cryptography"} for word in (module, *READ["modules"].get(module, ()))}
+    for name, text in (("METADATA", metadata_of_binding), ("control", control_of_binding)):
+        found_in_it = {*re.findall(r"[\w-]+", text.lower())}
+        tally.count(f"{name} of cms_canon names nothing that only the archive needs", differing([], sorted(words & found_in_it)))
 
 
-def about(name):
-    return f"cms_canon-{VERSION}.dist-info/{name}"
+def about(wheel, name):
+    return f"{wheel['package']}-{VERSION}.dist-info/{name}"
 
 
-def check_wheel(tally, found):
-    name = next(it.name for it in PACKAGES.glob("*.whl"))
-    tally.count("name of the wheel", differing(f"cms_canon-{VERSION}-py3-none-manylinux_2_17_x86_64.whl", name))
-    own = {path: it.octets for path, it in inside(found, name).items()}
-    modules = expected_modules()
-    made = {"cms_canon/_version.py", "cms_canon/libcms_canon.so", f"cms_canon-{VERSION}.data/data/share/man/man1/cms-canon-archive.1"}
-    told_of = {about(it) for it in ("METADATA", "WHEEL", "RECORD", "entry_points.txt", "LICENSE-APACHE", "LICENSE-MIT", "THIRD-PARTIES")}
-    tally.count("files of the wheel", differing([], sorted(({*modules} | made | told_of) ^ {*own})))
-    for path, octets in modules.items():
-        tally.count(f"wheel: {path}", "" if own.get(path) == octets else "it is not that of the repository")
-    library = own["cms_canon/libcms_canon.so"]
-    tally.count("library of the wheel", "" if library == source_of("dist/x86_64-linux/libcms_canon.so") else "it is another one")
-    fields = {it.partition(": ")[0] for it in own[about("METADATA")].decode().partition("\n\n")[0].splitlines()}
+def check_wheels(tally, found):
+    tally.count("names of the wheels", differing(sorted(WHEELS), sorted(it.name for it in PACKAGES.glob("*.whl"))))
+    for name, wheel in WHEELS.items():
+        check_wheel(tally, name, wheel, {path: it.octets for path, it in inside(found, name).items()})
+
+
+def check_wheel(tally, name, wheel, own):
+    modules = expected_modules(wheel["modules"])
+    told_of = {about(wheel, it) for it in ("METADATA", "WHEEL", "RECORD", "LICENSE-APACHE", "LICENSE-MIT", *wheel["beside"])}
+    tally.count(f"{name}: files", differing([], sorted({*modules, *wheel["made"], *told_of} ^ {*own})))
+    for path, source in modules.items():
+        tally.count(f"{name}: {path}", "" if own.get(path) == source_of(source) else "it is not that of the repository")
+    metadata, said = own[about(wheel, "METADATA")].decode(), own[about(wheel, "WHEEL")].decode()
+    fields = {it.partition(": ")[0] for it in metadata.partition("\n\n")[0].splitlines()}
     wanted = {"Name", "Version", "Summary", "Author", "Author-email", "Project-URL", "License", "License-File", "Classifier", "Requires-Python",
               "Provides-Extra", "Requires-Dist", "Description-Content-Type"}
-    tally.count("METADATA of the wheel", differing([], sorted(wanted - fields)))
-    extras = re.findall(r"^Provides-Extra: (.*)$", own[about("METADATA")].decode(), re.M)
-    tally.count("extras of the wheel", differing(["archive", "verify"], sorted(extras)))
-    tag = re.search(r"^Tag: (.*)$", own[about("WHEEL")].decode(), re.M)[1]
-    tally.count("tag of the wheel", "" if name.endswith(f"-{tag}.whl") else f"{tag!r}")
-    entry = "cms-canon-archive = cms_canon.archive.__main__:main"
-    tally.count("entry point of the wheel", "" if entry in own[about("entry_points.txt")].decode().splitlines() else "it has none")
-    lines = [line.split(",") for line in own[about("RECORD")].decode().splitlines()]
+    tally.count(f"{name}: METADATA", differing([], sorted(wanted - fields)))
+    tally.count(f"{name}: extras", differing(wheel["extras"], sorted(re.findall(r"^Provides-Extra: (.*)$", metadata, re.M))))
+    lines = {f"Name: {wheel['package'].replace('_', '-')}", f"Version: {VERSION}", *wheel["lines"]}
+    tally.count(f"{name}: lines of METADATA", differing([], sorted(lines - {*metadata.splitlines()})))
+    tag = re.search(r"^Tag: (.*)$", said, re.M)[1]
+    tally.count(f"{name}: tag", "" if name.endswith(f"-{tag}.whl") else f"{tag!r}")
+    libraries = [path for path in own if path.endswith(".so")]
+    tally.count(f"{name}: whether it is Python alone", differing(f"Root-Is-Purelib: {str(not libraries).lower()}", said.splitlines()[2]))
+    if "entry" in wheel:
+        is_there = wheel["entry"] in own[about(wheel, "entry_points.txt")].decode().splitlines()
+        tally.count(f"{name}: entry point", "" if is_there else "it has none")
+    lines = [line.split(",") for line in own[about(wheel, "RECORD")].decode().splitlines()]
     sums = {path: base64.urlsafe_b64encode(hashlib.sha256(octets).digest()).decode().rstrip("=") for path, octets in own.items()}
-    right = [[path, f"sha256={sums[path]}", str(len(octets))] for path, octets in own.items() if path != about("RECORD")]
-    tally.count("RECORD of the wheel", differing(sorted([*right, [about("RECORD"), "", ""]]), sorted(lines)))
-    versions = {tuple(map(int, it.split(b"."))) for it in re.findall(rb"\bGLIBC_(\d+(?:\.\d+)+)\0", library)}
-    newest = max(versions, default=(99,))
-    tally.count("glibc that the wheel asks for", "" if newest <= OLDEST_GLIBC else f"{newest}, and its name promises {OLDEST_GLIBC}")
+    right = [[path, f"sha256={sums[path]}", str(len(octets))] for path, octets in own.items() if path != about(wheel, "RECORD")]
+    tally.count(f"{name}: RECORD", differing(sorted([*right, [about(wheel, "RECORD"), "", ""]]), sorted(lines)))
+    for path in libraries:
+        library = own[path]
+        tally.count(f"{name}: library", "" if library == source_of("dist/x86_64-linux/libcms_canon.so") else "it is another one")
+        versions = {tuple(map(int, it.split(b"."))) for it in re.findall(rb"\bGLIBC_(\d+(?:\.\d+)+)\0", library)}
+        newest = max(versions, default=(99,))
+        tally.count("glibc that the wheel asks for", "" if newest <= OLDEST_GLIBC else f"{newest}, and its name promises {OLDEST_GLIBC}")
 
 
 def check_jar(tally, found):

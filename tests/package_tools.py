@@ -18,7 +18,8 @@ DIST = TOP / "dist"
 BINARIES = DIST / "x86_64-linux"
 PACKAGES = DIST / "packages"
 FIX = "run scripts/release --packages and commit dist/"
-PARTS = ("CHANGELOG.md", "LICENSE-APACHE", "LICENSE-MIT", "bindings", "crates.txt", "docs", "examples", "packaging", "scripts")  # what packages are made of, beside the binaries
+# What packages are made of, beside the binaries.
+PARTS = ("CHANGELOG.md", "LICENSE-APACHE", "LICENSE-MIT", "archive", "bindings", "crates.txt", "docs", "examples", "packaging", "scripts")
 VERSION = re.search(r"^version: (.*)$", (BINARIES / "MANIFEST").read_text(encoding="ascii"), re.M)[1]
 CHANGELOG = (TOP / "CHANGELOG.md").read_text(encoding="utf-8")
 DATED = re.search(rf"^## {re.escape(VERSION)} - (.*)$", CHANGELOG, re.M)

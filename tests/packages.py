@@ -90,8 +90,8 @@ def check_wrong_packages(tally, made, folder):
     ):
         wrong = {**made, name: rebuilt(made[name], change, folder)}
         tally.count(f"{name}, wrong by {change!r}", "" if difference(made, wrong) else "it is taken for the same")
-    wheel, jar = next(it for it in made if it.endswith(".whl")), f"cms-canon-{VERSION}.jar"
-    for name, member_name in ((wheel, "py.typed"), (wheel, "entry_points.txt"), (jar, "libcms_canon.so"), (jar, "CmsCanon.class")):
+    wheel, archive, jar = (*checks.WHEELS, f"cms-canon-{VERSION}.jar")
+    for name, member_name in ((wheel, "py.typed"), (archive, "entry_points.txt"), (jar, "libcms_canon.so"), (jar, "CmsCanon.class")):
         without = io.BytesIO()
         with zipfile.ZipFile(io.BytesIO(made[name])) as old, zipfile.ZipFile(without, "w") as new:
             for it in old.infolist():
@@ -136,7 +136,7 @@ def check_install(tally, folder):
         verified = machine.run(f"dpkg --verify {' '.join(checks.DEBIAN)}\n/sbin/ldconfig -p | grep -c libcms_canon.so.0")
         tally.count("dpkg --verify", why_failed(verified) or differing("1\n", verified.output))
         modules = f"/{checks.MODULES}/cms_canon"
-        compiled = machine.run(f"ls {modules}/__pycache__/__init__.*.pyc {modules}/archive/__pycache__/command.*.pyc")
+        compiled = machine.run(f"ls {modules}/__pycache__/__init__.*.pyc {modules}_archive/__pycache__/command.*.pyc")
         tally.count("modules compiled", why_failed(compiled))
         done = machine.run(f"sudo apt-get purge {' '.join(checks.DEBIAN)}")
         tally.count("all packages purged", why_failed(done) or differing([], machine.left_over()))

@@ -38,6 +38,7 @@ from tally import Tally
 SECONDS = 120  # no command may take longer
 JNA = "/usr/share/java/jna.jar"
 DEBIAN_PYTHON = "/usr/bin/python3"
+ARCHIVE_PAGE = TOP / "archive" / "docs" / "man" / "cms-canon-archive.1"
 OF_ARCHIVE = ("click", "tqdm", "sqlalchemy", "jinja2", "matplotlib")
 COMMANDS = ("convert", "show", "check", "cover", "same")
 OF_RUST = {"RUSTUP_HOME": ".rustup", "CARGO_HOME": ".cargo"}  # where cargo has its tools, in the home of the user
@@ -249,11 +250,11 @@ def check_in_clone(tally, name, folder, authority, judge=None):
     return not_run
 
 
-def judge_using(tally, copy):
+def judge_archive(tally, copy):
     """Checks that the packages for the archive are among those that the tests install."""
     packages = re.search(r'^wanted="(.*)"$', (copy / ".ci" / "run").read_text(), re.M)[1].split()
     (command,) = READ["not_run"]["packages"]
-    tally.count("docs/USING.md: packages", ", ".join(set(command.removeprefix("sudo apt-get install ").split()) - set(packages)))
+    tally.count("archive/README.md: packages", ", ".join({*re.findall(r"python3-\S+", command)} - {*packages}))
 
 
 def judge_examples(tally, copy):
@@ -263,10 +264,11 @@ def judge_examples(tally, copy):
         file = copy / "example" / f"{name}.der"
         if file.exists():
             tally.count(f"examples/README.md: {file.name}", "" if file.read_bytes() == wanted else "it is not the DER of examples/message.ber")
-    # In an environment that has no packages but cms_canon, cms-canon-archive says which one is missing.
-    command = copy / "example" / "venv" / "bin" / "cms-canon-archive"
-    if command.exists():
-        ended = subprocess.run([command, "--help"], capture_output=True, text=True)
+    # In an environment that has no packages but ours, cms-canon-archive says which one is missing.
+    programs = copy / "example" / "venv" / "bin"
+    if programs.exists():
+        subprocess.run([programs / "pip", "install", "--quiet", "--no-index", "--no-deps", copy / "archive"], check=True, capture_output=True)
+        ended = subprocess.run([programs / "cms-canon-archive", "--help"], capture_output=True, text=True)
         is_so = (ended.returncode, ended.stdout, ended.stderr.count("\n")) == (1, "", 1) and "the package click" in ended.stderr
         tally.count("cms-canon-archive without its packages", "" if is_so else f"status {ended.returncode}: {ended.stderr[-500:]}")
     # The commands by which examples/message.ber was made make the same.
@@ -289,7 +291,7 @@ def judge_examples(tally, copy):
         tally.count("examples/rattle/start: crates", "" if is_so else f"{there}, and {used}")
 
 
-JUDGES = {"docs/USING.md": judge_using, "examples/README.md": judge_examples}
+JUDGES = {"archive/README.md": judge_archive, "examples/README.md": judge_examples}
 
 
 # ---- the other documents
@@ -409,13 +411,13 @@ def check_manuals(tally, folder, authority):
     of_many = [it for it in of_manual(page, "MANY MESSAGES") if shutil.which(it.body.split()[0])]  # the others show lines of the program
     tally.count("man cms-canon: commands on many messages", "" if len(of_many) == 2 else f"{len(of_many)}")
     not_run = check_recipes(tally, "man cms-canon", [*of_manual(page, "EXAMPLES"), *of_many], folder, authority)
-    for name in ("dist", "bindings", "docs", "packaging"):
+    for name in ("archive", "dist", "bindings", "docs", "packaging"):
         shutil.copytree(TOP / name, folder / name)
     for name in ("CHANGELOG.md", "LICENSE-APACHE", "LICENSE-MIT"):
         shutil.copy(TOP / name, folder)
     shell = Shell(folder, folder / "home")
     with shell.process:
-        return not_run + run_blocks(tally, "man cms-canon-archive", shell, of_manual(TOP / "docs" / "man" / "cms-canon-archive.1", "DESCRIPTION"))
+        return not_run + run_blocks(tally, "man cms-canon-archive", shell, of_manual(ARCHIVE_PAGE, "DESCRIPTION"))
 
 
 def main():

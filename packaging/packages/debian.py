@@ -2,7 +2,7 @@
 
 They are not made by debhelper, since what is packed was proved and built elsewhere. They depend on `sse4.2-support`, which refuses
 processors older than x86-64-v2. `python3-cms-canon` has a link to the library of `libcms-canon0`, and no copy, so that one library in a
-system is updated once. What the archive imports at its start is in Depends.
+system is updated once. What `cms-canon-archive` imports at its start is in its Depends.
 """
 
 import hashlib
@@ -16,7 +16,7 @@ from typing import Callable, Dict, Iterable, List, Union
 from .components import notices_of_crates
 from .files import File, Link, gzipped, put_below
 from .project import PROJECT, TEMPLATES, TOP, Refused, Release, dates_of_versions, homepage
-from .python import about, manual, modules
+from .python import ARCHIVE, BINDING, about, manual, modules
 from .tools import run
 
 REVISION = "1"  # of what is packaged, for the same version
@@ -26,7 +26,7 @@ SONAME = "libcms_canon.so.0"
 CONTROL_FILES = ("postinst", "prerm", "shlibs", "symbols", "triggers")
 COMMAND = """\
 #!/usr/bin/python3
-from cms_canon.archive.__main__ import main
+from cms_canon_archive.__main__ import main
 
 main()
 """
@@ -46,7 +46,7 @@ def command(release: Release) -> Iterable[Entry]:
     """Yields the command, its manual page and its completions."""
     completions = TOP / "packaging" / "completions"
     yield File("usr/bin/cms-canon", release.octets_of("cms-canon"), 0o755)
-    yield File("usr/share/man/man1/cms-canon.1.gz", gzipped(manual(release, "cms-canon.1")))
+    yield File("usr/share/man/man1/cms-canon.1.gz", gzipped(manual(release, "docs/man/cms-canon.1")))
     yield File("usr/share/bash-completion/completions/cms-canon", (completions / "cms-canon.bash").read_bytes())
     yield File("usr/share/zsh/vendor-completions/_cms-canon", (completions / "_cms-canon").read_bytes())
     yield File("usr/share/fish/vendor_completions.d/cms-canon.fish", (completions / "cms-canon.fish").read_bytes())
@@ -76,12 +76,18 @@ def pkg_config(release: Release) -> bytes:
 
 
 def python(release: Release) -> Iterable[Entry]:
-    """Yields the package for Python, over the library of libcms-canon0, and the command cms-canon-archive."""
-    yield File("usr/bin/cms-canon-archive", COMMAND.encode(), 0o755)
-    yield File("usr/share/man/man1/cms-canon-archive.1.gz", gzipped(manual(release, "cms-canon-archive.1")))
-    for file in [*modules(release), *about(release)]:
+    """Yields the package for Python, over the library of libcms-canon0."""
+    for file in [*modules(BINDING, release), *about(BINDING, release)]:
         yield file._replace(name=f"{PYTHON}/{file.name}")
     yield Link(f"{PYTHON}/cms_canon/libcms_canon.so", f"../../../x86_64-linux-gnu/{SONAME}")
+
+
+def archive(release: Release) -> Iterable[Entry]:
+    """Yields the command cms-canon-archive, its modules and its manual page."""
+    yield File("usr/bin/cms-canon-archive", COMMAND.encode(), 0o755)
+    yield File("usr/share/man/man1/cms-canon-archive.1.gz", gzipped(manual(release, ARCHIVE.manual)))
+    for file in [*modules(ARCHIVE, release), *about(ARCHIVE, release)]:
+        yield file._replace(name=f"{PYTHON}/{file.name}")
 
 
 def java(jar: bytes, release: Release) -> Iterable[Entry]:
@@ -97,6 +103,7 @@ def all_packages(jar: bytes) -> List[Package]:
         Package("libcms-canon0", "amd64", library),
         Package("libcms-canon-dev", "amd64", development),
         Package("python3-cms-canon", "amd64", python),
+        Package("cms-canon-archive", "all", archive),
         Package("libcms-canon-java", "all", partial(java, jar)),
     ]
 

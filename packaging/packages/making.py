@@ -38,7 +38,7 @@ def packages_of(release: Release, work: Path) -> Dict[str, bytes]:
     classes = java.compiled(release, work)
     made.update(java.jars(release, classes, work))
     made.update(debian.packages(release, java.jar_of_classes(release, classes), work))
-    made.update(python.wheel(release))
+    made.update(python.wheels(release))
     made.update(rust.crate(release, work))
     made[f"cms-canon-{release.version}.spdx.json"] = sbom(release, {**binaries(release), **below(PACKAGES, made)})
     return made

@@ -1,36 +1,33 @@
-"""The package for Python: its files, and its wheel, which needs no build.
+"""The projects for Python: their files, and their wheels, which need no build.
 
-It is named for glibc 2.17, the oldest that pip and PyPI know by number; the library asks for 2.14. `__version__` is in a file that the
-build of the wheel writes: to ask `importlib.metadata` would double the time of the import, and answer for another copy if the package is
-not the installed one.
+That of `cms-canon` has the library, and is named for glibc 2.17, the oldest that pip and PyPI know by number; the library asks for 2.14. That of
+`cms-canon-archive` is Python alone. `__version__` is in a file that the build of the wheel writes: to ask `importlib.metadata` would double the
+time of the import, and answer for another copy if the package is not the installed one.
 """
 
 import base64
 import hashlib
+from dataclasses import dataclass
+from pathlib import Path
 from typing import Dict, Iterable, List
 
 from .components import third_parties
 from .files import File, files_below, zipped
-from .project import LICENSE, LICENSE_FILES, PROJECT, TOP, Release
-
-TAG = "py3-none-manylinux_2_17_x86_64"  # the library asks for glibc 2.14; 2.17 is the oldest that such a tag can name for all
-LIBRARY = "cms_canon/libcms_canon.so"
+from .project import LICENSE, LICENSE_FILES, PROJECT, TOP, Refused, Release, release_in
 
 METADATA = """\
 Metadata-Version: 2.1
-Name: cms-canon
+Name: {name}
 Version: {version}
-Summary: The one DER encoding of CMS signed messages and of time-stamps, and what their signatures cover
+Summary: {summary}
 Author: {authors}
 Author-email: {authors} <{mail}>
 Project-URL: Homepage, {homepage}
 License: {license}
-License-File: LICENSE-APACHE
-License-File: LICENSE-MIT
-License-File: THIRD-PARTIES
-Keywords: CMS,PKCS #7,RFC 5652,RFC 3161,DER,BER,ASN.1,time-stamp,signature
+{license_files}
+Keywords: {keywords}
 Classifier: Development Status :: 4 - Beta
-Classifier: Intended Audience :: Developers
+Classifier: Intended Audience :: {audience}
 Classifier: License :: OSI Approved :: Apache Software License
 Classifier: License :: OSI Approved :: MIT License
 Classifier: Operating System :: POSIX :: Linux
@@ -40,56 +37,114 @@ Classifier: Topic :: Security :: Cryptography
 Classifier: Topic :: System :: Archiving
 Classifier: Typing :: Typed
 Requires-Python: >=3.8
-Provides-Extra: verify
-Requires-Dist: cryptography >=38; extra == "verify"
-Provides-Extra: archive
-Requires-Dist: click >=8.1; extra == "archive"
-Requires-Dist: cryptography >=38; extra == "archive"
-Requires-Dist: zstandard >=0.20; extra == "archive"
-Requires-Dist: pikepdf >=6; extra == "archive"
-Requires-Dist: tqdm >=4.64; extra == "archive"
-Requires-Dist: SQLAlchemy >=1.4.40; extra == "archive"
-Requires-Dist: jinja2 >=3.1; extra == "archive"
-Requires-Dist: matplotlib >=3.6; extra == "archive"
-Requires-Dist: numpy >=1.20; extra == "archive"
-Requires-Dist: distributed >=2022.12; extra == "archive"
+{requires}
 Description-Content-Type: text/markdown
 
 {description}"""
 
-ENTRY_POINTS = """\
-[console_scripts]
-cms-canon-archive = cms_canon.archive.__main__:main
-"""
-
-WHEEL = f"""\
+WHEEL = """\
 Wheel-Version: 1.0
 Generator: cms-canon
-Root-Is-Purelib: false
-Tag: {TAG}
+Root-Is-Purelib: {is_pure}
+Tag: {tag}
 """
 
 
-def modules(release: Release) -> List[File]:
-    """Returns the files of the package `cms_canon`, without the library."""
-    version = File("cms_canon/_version.py", f'__version__ = "{release.version}"\n'.encode())
-    return sorted([*files_below(TOP / "bindings" / "python" / "cms_canon", "cms_canon/"), version])
+@dataclass(frozen=True)
+class Project:
+    """A project of PyPI: one package, and what is said of it."""
+
+    name: str
+    summary: str
+    folder: str
+    """In the repository: it has the package and README.md."""
+    tag: str
+    """Of the wheel: for which Python, and for which systems."""
+    keywords: str
+    audience: str
+    requires: str
+    """The lines of METADATA on what it needs."""
+    has_library: bool = False
+    entry_points: str = ""
+    manual: str = ""
+    """The path of the page of its command in the repository."""
+
+    @property
+    def package(self) -> str:
+        return self.name.replace("-", "_")
+
+    def about(self, version: str) -> str:
+        """Returns the folder of the wheel that says what this is."""
+        return f"{self.package}-{version}.dist-info"
 
 
-def about(release: Release) -> List[File]:
+BINDING = Project(
+    name="cms-canon",
+    summary="The one DER encoding of CMS signed messages and of time-stamps, and what their signatures cover",
+    folder="bindings/python",
+    tag="py3-none-manylinux_2_17_x86_64",  # the library asks for glibc 2.14; 2.17 is the oldest that such a tag can name for all
+    keywords="CMS,PKCS #7,RFC 5652,RFC 3161,DER,BER,ASN.1,time-stamp,signature",
+    audience="Developers",
+    has_library=True,
+    requires="""\
+Provides-Extra: verify
+Requires-Dist: cryptography >=38; extra == "verify"
+Provides-Extra: archive
+Requires-Dist: cms-canon-archive[all] =={version}; extra == "archive\"""",
+)
+
+ARCHIVE = Project(
+    name="cms-canon-archive",
+    summary="Finds the signatures and time-stamps in an archive, and says whether they fit their documents",
+    folder="archive",
+    tag="py3-none-any",
+    keywords="CMS,PKCS #7,RFC 5652,RFC 3161,PDF,S/MIME,JAR,ASiC,time-stamp,signature,archive",
+    audience="System Administrators",
+    requires="""\
+Requires-Dist: cms-canon =={version}
+Requires-Dist: click >=8.1
+Requires-Dist: cryptography >=38
+Requires-Dist: pikepdf >=6
+Requires-Dist: SQLAlchemy >=1.4.40
+Requires-Dist: tqdm >=4.64
+Requires-Dist: zstandard >=0.20
+Provides-Extra: all
+Requires-Dist: distributed >=2022.12; extra == "all"
+Requires-Dist: jinja2 >=3.1; extra == "all"
+Requires-Dist: matplotlib >=3.6; extra == "all"
+Requires-Dist: numpy >=1.20; extra == "all\"""",
+    entry_points="""\
+[console_scripts]
+cms-canon-archive = cms_canon_archive.__main__:main
+""",
+    manual="archive/docs/man/cms-canon-archive.1",
+)
+
+
+def modules(project: Project, release: Release) -> List[File]:
+    """Returns the files of the package, without the library. The one that has the library also says the version."""
+    files = [*files_below(TOP / project.folder / project.package, f"{project.package}/")]
+    version = File(f"{project.package}/_version.py", f'__version__ = "{release.version}"\n'.encode())
+    return sorted([*files, version]) if project.has_library else files
+
+
+def about(project: Project, release: Release) -> List[File]:
     """Returns the files that say what the package is, and which commands it has."""
-    folder = f"cms_canon-{release.version}.dist-info"
-    description = (TOP / "bindings" / "python" / "README.md").read_text(encoding="utf-8")
-    metadata = METADATA.format(version=release.version, license=LICENSE, description=description, **PROJECT)
-    return [
-        File(f"{folder}/METADATA", metadata.encode()),
-        File(f"{folder}/entry_points.txt", ENTRY_POINTS.encode()),
-    ]
+    folder = project.about(release.version)
+    license_files = (*LICENSE_FILES, "THIRD-PARTIES") if project.has_library else LICENSE_FILES
+    metadata = METADATA.format(
+        name=project.name, version=release.version, summary=project.summary, keywords=project.keywords, audience=project.audience,
+        license=LICENSE, license_files="\n".join(f"License-File: {it}" for it in license_files),
+        requires=project.requires.format(version=release.version), description=(TOP / project.folder / "README.md").read_text(encoding="utf-8"),
+        **PROJECT,
+    )
+    files = [File(f"{folder}/METADATA", metadata.encode())]
+    return [*files, File(f"{folder}/entry_points.txt", project.entry_points.encode())] if project.entry_points else files
 
 
-def manual(release: Release, name: str) -> bytes:
-    """Returns a manual page with the version in it."""
-    return (TOP / "docs" / "man" / name).read_text(encoding="utf-8").replace("@VERSION@", release.version).encode()
+def manual(release: Release, path: str) -> bytes:
+    """Returns a manual page of the repository with the version in it."""
+    return (TOP / path).read_text(encoding="utf-8").replace("@VERSION@", release.version).encode()
 
 
 def record(files: Iterable[File], name: str) -> File:
@@ -101,18 +156,50 @@ def record(files: Iterable[File], name: str) -> File:
     return File(name, "".join([*lines, f"{name},,\n"]).encode())
 
 
-def wheel(release: Release) -> Dict[str, bytes]:
+def of_the_library(project: Project, release: Release) -> List[File]:
+    """Returns the library, and the notices of what is linked into it."""
+    return [
+        File(f"{project.package}/libcms_canon.so", release.octets_of("libcms_canon.so")),
+        File(f"{project.about(release.version)}/THIRD-PARTIES", third_parties()),
+    ]
+
+
+def of_the_manual(project: Project, release: Release) -> List[File]:
+    """Returns the page of the command, where pip puts it into the folder of manual pages of an environment."""
+    folder = f"{project.package}-{release.version}.data/data/share/man/man1"
+    return [File(f"{folder}/{Path(project.manual).name}", manual(release, project.manual))] if project.manual else []
+
+
+def wheel(project: Project, release: Release) -> Dict[str, bytes]:
     """Returns the octets of the wheel by its name."""
-    folder = f"cms_canon-{release.version}.dist-info"
-    page = f"cms_canon-{release.version}.data/data/share/man/man1/cms-canon-archive.1"
+    folder = project.about(release.version)
     files = [
-        *modules(release),
-        File(LIBRARY, release.octets_of("libcms_canon.so")),
-        File(page, manual(release, "cms-canon-archive.1")),
-        *about(release),
-        File(f"{folder}/WHEEL", WHEEL.encode()),
+        *modules(project, release),
+        *(of_the_library(project, release) if project.has_library else []),
+        *of_the_manual(project, release),
+        *about(project, release),
+        File(f"{folder}/WHEEL", WHEEL.format(is_pure=str(not project.has_library).lower(), tag=project.tag).encode()),
         *(File(f"{folder}/{name}", (TOP / name).read_bytes()) for name in LICENSE_FILES),
-        File(f"{folder}/THIRD-PARTIES", third_parties()),
     ]
     files.append(record(files, f"{folder}/RECORD"))
-    return {f"cms_canon-{release.version}-{TAG}.whl": zipped(files, release.epoch)}
+    return {f"{project.package}-{release.version}-{project.tag}.whl": zipped(files, release.epoch)}
+
+
+def wheels(release: Release) -> Dict[str, bytes]:
+    return {**wheel(BINDING, release), **wheel(ARCHIVE, release)}
+
+
+# ---- the hooks that pip calls (PEP 517)
+
+def build_wheel(project: Project, wheel_directory: str, config_settings: object = None, metadata_directory: object = None) -> str:
+    """Writes the wheel into the folder, and returns its name."""
+    try:
+        ((name, octets),) = wheel(project, release_in(TOP / "dist" / "x86_64-linux")).items()
+    except Refused as why:
+        raise SystemExit(f"the package is built in its repository, from the release in dist/: {why}") from None
+    Path(wheel_directory, name).write_bytes(octets)
+    return name
+
+
+def build_sdist(sdist_directory: str, config_settings: object = None) -> str:
+    raise SystemExit("there is no source archive: the library is proved and built in the repository")

@@ -388,7 +388,7 @@ def check(
     given = None
     if asked is None or (content is not None and asked.content_itself):
         given, stamps = (None if it is None else joined(it, most) for it in (content, stamped))
-        words = (*_calls.optional_of(given), *_calls.optional_of(stamps))
+        words: Tuple[Any, ...] = (*_calls.optional_of(given), *_calls.optional_of(stamps))
         found = _found(_calls.library.cms_canon_check, octets, *words, most)
     else:
         if content is not None and verifier is not None and _covers_content(read(octets, limit)):

@@ -35,7 +35,7 @@ from __future__ import annotations
 import re
 from functools import cached_property
 from itertools import islice
-from typing import AbstractSet, Any, Dict, Iterable, Iterator, List, NamedTuple, Optional, Set, Tuple, Union
+from typing import AbstractSet, Any, Callable, Dict, Iterable, Iterator, List, NamedTuple, Optional, Set, Tuple, Union
 from weakref import WeakKeyDictionary
 
 from cryptography import x509
@@ -62,7 +62,7 @@ _SHA224, _SHA256, _SHA384, _SHA512, _SHA512_224, _SHA512_256 = (f"{_NIST_HASHES}
 _SHA3 = [f"{_NIST_HASHES}.{it}" for it in (7, 8, 9, 10)]  # with 224, 256, 384 and 512 bits
 _SHAKE256, _SHAKE256_LEN = f"{_NIST_HASHES}.12", f"{_NIST_HASHES}.18"
 
-_HASHES = {
+_HASHES: Dict[str, Callable[[], hashes.HashAlgorithm]] = {
     _MD5: hashes.MD5,
     _SHA1: hashes.SHA1,
     _SHA224: hashes.SHA224,

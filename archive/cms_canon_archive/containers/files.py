@@ -1,0 +1,132 @@
+"""Opens files of a disk, which may have become something else since they were listed, and finds what is in them."""
+
+from __future__ import annotations
+
+import errno
+import io
+import os
+import stat
+from typing import Any, BinaryIO, Iterable, Iterator, Optional, Tuple
+
+from .finder import found_in
+from .found import Class, Content, Found, Octets, Pieces, State, numbered
+from .packed import why_of
+from .sources import PIECE, Budget, Ended, Source, TooMuch
+
+SMALL = 1 << 20  # octets of content that is read at once
+SHORT = 1 << 16  # octets of a file that is read at once
+_KINDS = (
+    *((stat.S_ISFIFO, "a FIFO"), (stat.S_ISSOCK, "a socket"), (stat.S_ISDIR, "a folder")),
+    *((stat.S_ISCHR, "a device"), (stat.S_ISBLK, "a device")),
+)
+_FLAGS = os.O_RDONLY | os.O_NOFOLLOW | os.O_NONBLOCK | os.O_CLOEXEC
+
+
+class Unreadable(Ended):
+    """The file system does not give the octets of a file."""
+
+
+class _File(io.FileIO):
+    """A file that raises an error of its own if the file system cannot read it, which is not the same as a damaged file."""
+
+    def readinto(self, buffer: Any) -> Optional[int]:
+        try:
+            return super().readinto(buffer)
+        except OSError as error:
+            raise Unreadable(why_of(error)) from error
+
+
+def _refuse_others(mode: int) -> None:
+    """Raises `OSError` if a file is no regular one."""
+    if not stat.S_ISREG(mode):
+        raise OSError(f"it is {kind_of(mode)}, and not a regular file")
+
+
+def kind_of(mode: int) -> str:
+    """Returns what a file is that is neither regular nor a folder, in words."""
+    return next((kind for is_so, kind in _KINDS if is_so(mode)), "of another kind")
+
+
+def opened(path: str) -> BinaryIO:
+    """Opens a regular file. Raises `OSError` if it is a symbolic link or of another kind by now: a FIFO would be waited for."""
+    descriptor = os.open(path, _FLAGS)
+    try:
+        _refuse_others(os.fstat(descriptor).st_mode)
+    except OSError:
+        os.close(descriptor)
+        raise
+    return io.BufferedReader(_File(descriptor))
+
+
+class _FilePieces:
+    """The octets of a file, which is read again whenever they are asked for."""
+
+    def __init__(self, path: str) -> None:
+        self._path = path
+
+    def __iter__(self) -> Iterator[bytes]:
+        with opened(self._path) as file:
+            while piece := file.read(PIECE):
+                yield piece
+
+
+def beside(path: str) -> Optional[Content]:
+    """Returns a file as the content of a message beside it; None if it is not there."""
+    name = os.path.basename(path)
+    try:
+        with opened(path) as file:
+            length = os.fstat(file.fileno()).st_size
+            pieces: Iterable[Octets] = _FilePieces(path)
+            if length <= SMALL:
+                pieces = Pieces(file.read())
+    except FileNotFoundError:
+        return None
+    except (OSError, Unreadable) as error:
+        return Content(name, 0, (), State.UNREADABLE, f"{name}: {why_of(error)}")
+    return Content(name, length, pieces)
+
+
+class _Short(io.BytesIO):
+    """A file that was read at once, which says errors as one that is open does."""
+
+    def seek(self, at: int, whence: int = io.SEEK_SET) -> int:
+        try:
+            return super().seek(at, whence)
+        except ValueError:
+            raise OSError(errno.EINVAL, os.strerror(errno.EINVAL)) from None
+
+
+def _read(descriptor: int, most: int) -> bytes:
+    try:
+        return os.read(descriptor, most)
+    except OSError as error:
+        raise Unreadable(why_of(error)) from error
+
+
+def _begun(path: str) -> Tuple[BinaryIO, int]:
+    """Returns a regular file and its size: a short one is read at once, and closed. Raises `OSError` if it is of another kind by now."""
+    descriptor = os.open(path, _FLAGS)
+    try:
+        status = os.fstat(descriptor)
+        _refuse_others(status.st_mode)
+        if status.st_size < SHORT:
+            octets = _read(descriptor, status.st_size + 1)
+            if len(octets) == status.st_size:
+                os.close(descriptor)
+                return _Short(octets), status.st_size
+            os.lseek(descriptor, 0, os.SEEK_SET)
+    except BaseException:
+        os.close(descriptor)
+        raise
+    return io.BufferedReader(_File(descriptor)), status.st_size
+
+
+def found_in_path(path: str) -> Iterator[Found]:
+    """Gives what is found in a file, and last the file itself. Raises `OSError` or `Unreadable` if it cannot be read."""
+    file, size = _begun(path)
+    with file:
+        try:
+            for it in numbered(found_in(Source(path, file, size, Budget(size), is_seekable=True))):
+                yield it.with_content(beside(it.wants)) if it.wants else it
+        except TooMuch as why:
+            yield Found("", "file", Class.TOO_LARGE, size, note=str(why))

@@ -1,0 +1,131 @@
+"""Rows that are read and not stored yet, and how a database takes many of them at once.
+
+Rows go to SQLite by the driver's own call and to PostgreSQL by COPY, which takes half the time of statements. A file of very many members
+is stored in one transaction, at the end, so that no transaction waits for a disk and no reader sees half a tar.
+"""
+
+from __future__ import annotations
+
+import io
+import pickle
+import tempfile
+from operator import itemgetter
+from typing import IO, Any, Callable, Dict, Iterable, Iterator, List, Optional, Tuple
+
+import sqlalchemy as sa
+from sqlalchemy.exc import DBAPIError
+
+from .reading import Row
+from .tables import LISTS, PLACES, columns_of
+
+Values = Tuple[Any, ...]
+
+TOGETHER = 10_000  # rows that are in memory: the rows of a tar may be millions
+_FIELDS: Dict[sa.Table, Callable[[Row], Values]] = {it: itemgetter(*(c.name for c in columns_of(it))) for it in (PLACES, *LISTS.values())}
+
+
+class Spool:
+    """Rows of all tables of a place, in memory, or in a file without a name if they are many."""
+
+    def __init__(self, worker: int) -> None:
+        """`worker` is the number of who reads them."""
+        self._worker = worker
+        self._rows: Dict[sa.Table, List[Values]] = {PLACES: [], **{it: [] for it in LISTS.values()}}
+        self._tables = list(self._rows)
+        self._in_memory = 0
+        self._file: Optional[IO[bytes]] = None
+
+    def add(self, part: int, file: str, row: Row) -> None:
+        """Adds a row, with its signers and times, under the name of its file."""
+        key = (part, file, row["member"])
+        self._rows[PLACES].append((*key, *_FIELDS[PLACES](row), self._worker))
+        for name, table in LISTS.items():
+            if row[name]:
+                fields = _FIELDS[table]
+                self._rows[table] += [key + fields(it) for it in row[name]]
+                self._in_memory += len(row[name])
+        self._in_memory += 1
+        if self._in_memory >= TOGETHER:
+            self._put_away()
+
+    def _put_away(self) -> None:
+        if self._file is None:
+            self._file = tempfile.TemporaryFile(prefix="cms-canon-archive-")
+        for number, table in enumerate(self._tables):
+            pickle.dump((number, self._rows[table]), self._file)
+            self._rows[table] = []
+        self._in_memory = 0
+
+    def pieces(self) -> Iterator[Tuple[sa.Table, List[Values]]]:
+        """Gives the rows of one table after another. It can be asked again, if they could not be stored."""
+        if self._file is not None:
+            self._file.seek(0)
+            try:
+                while True:
+                    number, rows = pickle.load(self._file)
+                    yield self._tables[number], rows
+            except EOFError:
+                pass
+        for table, rows in self._rows.items():
+            yield table, rows
+
+    def close(self) -> None:
+        """Lets go of the file."""
+        if self._file is not None:
+            self._file.close()
+
+
+# ---- storing many at once
+
+
+def store(connection: sa.engine.Connection, pieces: Iterable[Tuple[sa.Table, List[Values]]]) -> None:
+    """Stores rows in a transaction that is begun: by COPY in PostgreSQL, and by the driver's own call in SQLite."""
+    put = _copy if connection.dialect.name == "postgresql" else _insert
+    for table, rows in pieces:
+        if rows:
+            put(connection, table, rows)
+
+
+def _insert(connection: sa.engine.Connection, table: sa.Table, rows: List[Values]) -> None:
+    places = ", ".join("?" * len(table.columns))
+    at = [it.name for it in table.columns].index("digest") if table is PLACES else None
+    values = rows if at is None else [_with_octets(it, at) for it in rows]
+    connection.exec_driver_sql(f"INSERT INTO {table.name} VALUES ({places})", values)
+
+
+def _with_octets(row: Values, at: int) -> Values:
+    return row if row[at] is None else (*row[:at], bytes.fromhex(row[at]), *row[at + 1 :])
+
+
+def _copy(connection: sa.engine.Connection, table: sa.Table, rows: List[Values]) -> None:
+    at = [it.name for it in table.columns].index("digest") if table is PLACES else None
+    quote = connection.dialect.identifier_preparer.quote
+    names = ", ".join(quote(it.name) for it in table.columns)
+    text = "".join([_line(it, at) for it in rows]).encode()
+    driver, cursor = connection.dialect.dbapi, connection.connection.cursor()
+    try:
+        cursor.copy_expert(f"COPY {table.name} ({names}) FROM STDIN", io.BytesIO(text))
+    except driver.Error as error:  # which SQLAlchemy does not see, so that it is put here in the form of its own
+        is_lost = connection.dialect.is_disconnect(error, connection.connection.dbapi_connection, cursor)
+        raise DBAPIError.instance("COPY", None, error, driver.Error, connection_invalidated=is_lost, dialect=connection.dialect) from error
+    finally:
+        cursor.close()
+
+
+_NULL, _OCTETS = "\0", "\1"  # stand in a line for what would need a backslash: no text has control characters
+_ESCAPES = str.maketrans({"\\": "\\\\", "\t": "\\t", "\n": "\\n", "\r": "\\r", "\0": "", "\1": ""})
+
+
+def _line(row: Values, digest_at: Optional[int]) -> str:
+    """Returns a row as COPY takes it. Few rows have anything that is to be escaped, so all of a row is looked at once."""
+    words = [it if type(it) is str else _NULL if it is None else _word(it) for it in row]
+    if digest_at is not None and row[digest_at] is not None:
+        words[digest_at] = _OCTETS + row[digest_at]
+    line = "\t".join(words)
+    if "\\" in line or "\n" in line or "\r" in line or line.count("\t") >= len(words):
+        line = "\t".join([it if it is _NULL or n == digest_at else it.translate(_ESCAPES) for n, it in enumerate(words)])
+    return line.replace(_OCTETS, "\\\\x").replace(_NULL, "\\N") + "\n"
+
+
+def _word(value: Any) -> str:
+    return ("t" if value else "f") if value is True or value is False else str(value)
