@@ -86,7 +86,7 @@ SECTIONS = (
     ),
     Section(
         "The records of RFC 5652 and RFC 3161",
-        "Each type of these standards has the type of its values, which are nested pairs; a definition for each field, which takes the first "
+        "Each type of these standards has the type of its values, which are nested pairs; a definition for each field that the contracts read, which takes the first "
         "part of a pair (`.0`) or the second (`.1`); and a grammar.",
         {
             **{f"cms_message/{it}.antt": "" for it in ("Algorithms", "Choices", "Attributes", "Countersignatures")},
@@ -339,33 +339,35 @@ a definition of this page, something that the kit or the code declares, or a var
 
 ## In words
 
-A message is a ContentInfo that holds SignedData (RFC 5652), or a TimeStampReq or a TimeStampResp (RFC 3161), as sections 1 to 7 have them: at
-most eight octets encode a length, and at most four follow the first octet of an identifier; what is opaque is framed as in section 3; a BIT STRING is
-primitive; signed attributes are in DER; strings have at most eight levels of segments, and countersignatures four. Inside what is opaque, DER is asked
-of the framing alone. A message has no forms of lengths or segments, octet of TRUE, explicit default, unused bits or trailing zeros of named bits: what
-differs only in these spells the same value. Two messages are the same if they differ at most in the order of the members of sets (`same_message`).
-Numbers of versions are kept, and not checked. An input denotes a message if it spells one that is the same, and neither the input nor the DER of its
-message has more than 2^24 octets.
+A message is a value: a ContentInfo that holds SignedData (RFC 5652), or a TimeStampReq or a TimeStampResp (RFC 3161), as sections 1 to 7 have them.
+Octets spell it. Only structure is judged: numbers of versions, for example, and which attributes are there, are kept and not checked. At most eight
+octets encode a length, and at most four follow the first octet of an identifier; what is opaque is framed as in section 3, where DER is asked of the
+framing alone; a BIT STRING is primitive; signed attributes are in DER; strings have at most eight levels of segments, and countersignatures four; a
+set of countersignatures may be empty. A value does not record forms of lengths or segments, the octet of TRUE, an explicit default, unused bits or
+trailing zeros of named bits: what differs only in these spells the same value. Two messages are the same if they differ at most in the order of the
+members of sets that are not inside what is opaque (`same_message`). An input denotes a message if it spells one that is the same, and there is DER of
+that, and neither the input nor the DER has more than 2^24 octets.
 
 Take any two inputs in memory. If `both` returns two lists of octets, then of each input and what is written for it:
 
 - **`der_of_a`, `der_of_b`**: the whole input spells a message in BER, and what is written is DER of a message that is the same. Neither has
   more than 2^24 octets.
 - **`same`**: the two lists are equal if and only if there is a message that both inputs denote.
-- **`kept`**: the content is the same; each signature and countersignature covers the same octets, whatever detached content is given; and
+- **`kept`**: the content is the same; each signature and countersignature is kept, and covers the same octets, whatever detached content is given; and
   signed attributes, certificates, attribute values other than countersignatures, and everything else that is opaque lie in what is written as they
   lie in the input, octet for octet, and the two values have each equally often.
-- **`again`**: what is written is accepted, and is DER of the message that it spells; and if octets follow it, it is the only beginning of the whole that
-  spells a message. That it is written again unchanged follows, since DER of one message is unique (`what_is_written_is_written_again`, a law that is not here).
+- **`again`**: what is written is accepted, and is DER of a message that is the same as the one that it spells; and whatever follows it, it is the only
+  beginning of the whole that spells a message. That it is written again unchanged follows, since DER of one message is unique
+  (`what_is_written_is_written_again`, a law that is not here).
 
-What `written_or_refused` writes is DER as above (`der`). If it refuses an input (`refused`), then one of these is true of the first octets of the input,
-as many as the refusal counts (`at`):
+What `written_or_refused` writes is DER as above (`der`). If it refuses an input (`refused`) for one of the reasons E1 to E19 (listed under "Types of the
+code"), then this is true of the first octets of the input, as many as the refusal counts (`at`):
 
-- they are hopeless, and at most 2^24: no list of octets that begins with them begins with a message of at most 2^24 octets;
-- it is E1: they are the whole input, fewer than 2^24, and a proper prefix of a frame (an element of which only the framing is considered), though maybe
-  of none that a message begins with;
-- it is E2: they are a message of at most 2^24 octets, and all DER of it has more (that there is some is not said here);
-- it is E18: they are a message, which has at most 2^24 octets as its DER has, and one octet that follows it.
+- with E1 they are the whole input, fewer than 2^24, and a proper prefix of a frame (an encoding of which only the framing is considered); maybe no message
+  begins with them;
+- with any other reason they are hopeless, and at most 2^24: no list of octets that begins with them begins with a message of at most 2^24 octets;
+- or it is E2: they are a message of at most 2^24 octets, and all DER of it has more (that there is some is not said here);
+- or it is E18: they are a message of at most 2^24 octets, whose DER has at most 2^24, and one octet that follows it.
 
 If they are hopeless, they are not those of the last two, and so they also say why (`SayWhy`), and it is not E18:
 
@@ -381,7 +383,7 @@ Before that header or element there is a path to it: whole frames, and headers o
 with what follows. So `30 04 04 02 02 00` does not end in a malformed INTEGER, since `04` is not constructed. `SayWhy` leaves open whether the path
 is one that a message has: `30 04 31 02 02 00` does end in a malformed INTEGER, though a message has none there, and the reader refuses the `31`
 (E7). Nor does this page say that the refusal is the first one that reading from left to right comes to. Both are said by the clause `refines` of
-`read_message`, a function of the library that is not on this page; the clause names the pure readers.
+`read_message`, a function of the library that is not on this page; the clause names functions that say what reading gives (`Exact.antt`).
 
 The only other error of `written_or_refused` is `OutOfMemory`. No clause says when: a `both` that always returns none, and a `written_or_refused`
 that always says that memory ran out, would meet these contracts.
@@ -401,16 +403,17 @@ These are handed only to rows that are left out, and do not matter there (sectio
 A name in brackets after what a grammar is, as [`Tagged`], is the type of the code that reads and writes by it.
 {rules}
 
-Notation: `(x : A) × B` is a pair whose second part may speak of the first one; `.0` and `.1`, or a name, is a part of a value; `(x : A) → B` is a
-function, and says `B` of all `x`; in `{{x : A}}`, `x` is found from what follows; `A → ⊥` says that `A` is untrue; `A ⊎ B` is one of the two, `inl` of the
-first and `inr` of the second; `x ∷ xs` is a list that begins with `x`; `a.now` is the octets of a slice, and `.items` those of a `Vec`; after `mutual` come
-definitions that use one another; `unfoldable` says how the prover treats a definition, and nothing about it. In a comment, `--- |` begins a further
-sentence, and [ours] marks what is in no standard. What is said of a reason beside its name in the code is a summary: `SayWhy` has what is promised;
-`record g {{ .. }}` is `g` with other rows; `abbrev` introduces a synonym; `◌` marks the position of an operand. `⊤` and `Unit {{0}}` hold, and `⊥`
-does not. The first clause of a definition that matches counts. `0x30` is hexadecimal; in comments octets are written without `0x`, and other
-numbers are decimal. The prefixes `reasons.`, `faults.` and `tails.` precede variants of the types of the code. Of the kit,
-`IfSome`, `IfOk` and `IfErr` say nothing in the other case, `slice_index` is 0 past the end of a list, and `AllZip` says that two lists are
-equally long.
+Notation: `(x : A) × B` is a pair whose second part may speak of the first one, and says that there is such an `x`; `.0` and `.1`, or a name, is a
+part of a value; `(x : A) → B` is a function, and says `B` of all `x`; in `{{x : A}}`, `x` is found from what follows; `A → ⊥` says that `A` is
+untrue; `A ⊎ B` is one of the two, `inl` of the first and `inr` of the second; `λ x. e` is the function that gives `e` for `x`; `x ∷ xs` is a list
+that begins with `x`, and `xs ++ ys` is `xs` and then `ys`; `suc n` is `n + 1`; `/` and `%` are the whole quotient and the remainder; `a.now` is the
+octets of a slice, and `.items` those of a `Vec`; after `mutual` come definitions that use one another; `unfoldable` says how the prover treats a
+definition, and nothing about it. In a comment, `--- |` begins a further sentence, and [ours] marks what is in no standard. What is said of a reason
+beside its name in the code is a summary: `SayWhy` has what is promised; `record g {{ .. }}` is `g` with other rows, and with its `spelled` and `same`
+unless others are shown; `abbrev` introduces a synonym; `◌` marks the position of an operand. `⊤` and `Unit {{0}}` hold, and `⊥` does not. The first
+clause of a definition that matches counts. `0x30` is hexadecimal; in comments octets are written without `0x`, and other numbers are decimal. The
+prefixes `reasons.`, `faults.` and `tails.` precede variants of the types of the code; a variant is the same without its prefix. Of the kit, `IfSome`,
+`IfOk` and `IfErr` say nothing in the other case, `slice_index` is 0 past the end of a list, and `AllZip` says that two lists are equally long.
 """
 
 OTHER_RULES = """

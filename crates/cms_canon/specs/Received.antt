@@ -12,7 +12,7 @@ use Rattle.cms_tsp.specs.Requests.{MessageImprint}
 use Rattle.cms_tsp.specs.TstInfo.{TstInfo, tst_imprint, IsTstInfoOf}
 use Rattle.cms_canon.specs.Kinds.{MessageValue, whole_message, signed_data_in, requested_in}
 
---- `opaque_in v`: the octets of a message that are written as they were received [ours]
+--- `opaque_in v`: each list of octets of a message that is written as it was received [ours]
 abbrev pub opaque_in : MessageValue → List (List ℕ)
 opaque_in = in_either in_content_info (in_either in_time_stamp_req in_time_stamp_resp)
 

@@ -50,14 +50,13 @@ use cms_tlv::{Fault, Slice, Watched};
 pub use sketches::{breaks, content_info_in_der};
 use std::alloc::Global;
 
-/// What two inputs in memory are written as, if each is a message that has at most 16 MiB, and so has its
-/// DER; else none. If memory runs out, it is none too: no clause says when that is.
+/// What two inputs in memory are written as, if each is a message of at most 16 MiB whose DER has at most
+/// 16 MiB; else none. If memory runs out, it is none too: no clause says when that is.
 ///
 /// What is written for each is DER of a message that is the same. The octets are equal if and only if
 /// there is a message that both inputs denote, with sets taken as multisets. The content, what
-/// signatures cover and everything else that is opaque are kept. What is written is accepted, and is
-/// written again unchanged; and if octets follow it, no others with which the whole begins are a
-/// message.
+/// signatures cover and everything else that is opaque are kept. What is written is accepted as
+/// itself; and if octets follow it, no others with which the whole begins are a message.
 pub fn both(alloc: Global, a: &[u8], b: &[u8]) -> Option<(Vec<u8>, Vec<u8>)>
     ensures der_of_a { IfSome result (λ p. IsAcceptedAs whole_message same_message
         (2 ^ 24) a.now p.0.items) }
@@ -95,7 +94,7 @@ pub fn written(alloc: Global, octets: &[u8]) -> Option<Vec<u8>>
     }
 }
 
-/// What is written for a message that has at most 16 MiB, as its DER has, or why nothing is.
+/// What is written for a message of at most 16 MiB whose DER has at most 16 MiB, or why nothing is.
 ///
 /// The octets that a refusal counts are hopeless: whatever follows them, the whole does not begin with
 /// such a message. Or it is E1, and the input is a proper prefix of a frame; or E2, and the octets are a
