@@ -329,7 +329,7 @@ class Statement:
 
 WORDS = """# The headline
 
-What the library promises, in one statement: the contract of `both`, and that of `written_or_refused` for what is refused. Both are functions
+What the library promises, in one statement: [the contract](#the-contracts) of `both`, and that of `written_or_refused` for what is refused. Both are functions
 of [crates/cms_example](../crates/cms_example/src/lib.rt), which a user of the library could have written: they call it, and what they
 promise is proved from its public contracts alone. This page has each definition that the two contracts reach, from below: it comes after
 those that it uses, unless they use one another. `scripts/proof` writes a page that says in words what each of them says.

@@ -1,5 +1,5 @@
 #!/usr/bin/env python3
-"""Feeds the vectors of this folder to the built program, and compares what it writes and its status.
+"""Feeds the vectors of `tests/vectors` to the built program, and compares what it writes and its status.
 
     python3 tests/run_vectors.py [PROGRAM [LIBRARY]]
 

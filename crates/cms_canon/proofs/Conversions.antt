@@ -21,7 +21,7 @@ use Rattle.cms_canon.specs.declared.convert.Done.{Done}
 use Rattle.cms_canon.specs.declared.many.Many.{Many}
 use Rattle.cms_canon.specs.declared.many.ManyFault.{ManyFault}
 use Rattle.cms_canon.specs.declared.message.Tail.TheVariants as tails
-use Rattle.cms_canon.specs.Many.{Conversion, AreOnePiece, IsReadAhead, IsFaithful, messages_of, ders_of, ArePastEnd, IsAfter, StopsAt, ManyFaults, AreConverted, AreAllConverted}
+use Rattle.cms_canon.specs.Many.{Conversion, AreOnePiece, IsReadAhead, IsFaithful, messages_of, ders_of, ArePastEnd, IsAfter, StopsAt, ManyFaults, AreConverted}
 use Rattle.cms_canon.specs.internal.ManySteps.{InHand, Progress, Proceeds, NextFails, IsBeforeEnd, IsNext, IsShort, with_message, with_der, all_written, split_at_message, stopped}
 use Rattle.cms_canon.specs.Messages.{IsDerOf, IsRead, IsAfterMessage, IsRefused, Hopeless}
 use Rattle.cms_canon.specs.Exact.{ExactFaults}

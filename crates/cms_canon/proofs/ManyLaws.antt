@@ -13,7 +13,7 @@ use Rattle.cms_canon.proofs.Headline.{IsMessageKind, one_output}
 use Rattle.cms_canon.proofs.MessageLaws.{message_kind}
 use Rattle.cms_canon.proofs.Prefixes.{end_themselves}
 
-pub larger_written : {V : Type 0} {R : Rules → Spelling V} {s : V → V → Bool} (limit larger : ℕ) (b o : List ℕ) → limit ≤ larger
+abbrev pub larger_written : {V : Type 0} {R : Rules → Spelling V} {s : V → V → Bool} (limit larger : ℕ) (b o : List ℕ) → limit ≤ larger
     → IsAcceptedAs R s limit b o → IsAcceptedAs R s larger b o
 larger_written limit larger b o l w =
     record {

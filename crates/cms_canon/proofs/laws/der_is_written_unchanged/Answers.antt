@@ -16,4 +16,5 @@ pub returns-clause-ber : goal.returns-clause-ber
 returns-clause-ber c o v d = c.message_laws.ensures.by_der.within o v d
 
 pub returns-clause-accepts : goal.returns-clause-accepts
-returns-clause-accepts c limit o v d l = (o, returns-clause-accepted c limit o v d l, refl)
+returns-clause-accepts c limit o v d l =
+    (o, der_unchanged (message_kind (c.message_laws.ensures.is_field ber) c.message_laws.ensures.by_der) limit o v d l, refl)
