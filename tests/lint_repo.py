@@ -465,18 +465,6 @@ def complaints_of_the_walk():
             yield f"{file} has no function {function}"
 
 
-def complaints_of_the_walk():
-    """Yields each frame of the walk of an octet in docs/ARCHITECTURE.md whose function its file does not have."""
-    walk = (TOP / "docs" / "ARCHITECTURE.md").read_text().partition("## The walk of an octet")[2].partition("\n## ")[0]
-    frames = re.findall(r"^\| (\d+) \| `(\w+)` \| `([^`]*)` \|", walk, re.M)
-    if [int(it[0]) for it in frames] != [*range(1, len(frames) + 1)] or not frames:
-        yield "the frames are not numbered from 1"
-    for _, function, file in frames:
-        found = TOP / "crates" / file
-        if not found.exists() or not re.search(rf"\bfn {function}\b", found.read_text()):
-            yield f"{file} has no function {function}"
-
-
 # What a command, an option without a value, and one with a value have in files that are written by hand.
 OF_COMMANDS = {
     "crates/cms_cli/src/task.rt": '"{}" =>', "crates/cms_cli/specs/CommandLine.antt": 'codes "{}"', "crates/cms_tests/src/commands.rt": '"cms-canon", "{}"',
