@@ -25,7 +25,7 @@ from .containers.found import State as DigestState
 from .digests import NoDigests
 from .cluster import NoCluster
 from .indexing import Plan, gathered, index, tend, work
-from .opening import NoStore, for_others, is_sqlite, url_of, without_password
+from .opening import NoIndex, NoStore, for_others, is_sqlite, url_of, without_password
 from .pages import Page
 from .processes import Failed, Processes
 from .reading import Row, parts_of, path_text_of, text_of
@@ -40,6 +40,7 @@ from .working import PATIENCE, TOGETHER, Options
 DEFAULT_STORE = "index.db"
 HELP = {"help_option_names": ["-h", "--help"]}
 _LOOKED_AT = 1.0  # seconds between the two looks by which files are counted a second
+_LOOKED_FOR = 0.5  # seconds between two looks for an index
 
 _store = click.option("--store", "url", default=DEFAULT_STORE, show_default=True, help="The database: a path, or a URL of SQLAlchemy.")
 _wait = click.option("--wait", type=click.FloatRange(0), metavar="SECONDS", help="How long to wait for a store that is in use.")
@@ -228,10 +229,26 @@ def index_command(
     _end_if_missing(paths)
 
 
+def _awaited(url: str, stays: float) -> Store:
+    """Opens a store once an index has been begun in it, for which it waits as long as a worker stays. Raises `NoIndex` if none was begun by then."""
+    end = time.monotonic() + stays
+    is_said = False
+    while True:
+        try:
+            return Store(url)
+        except NoIndex as why:
+            if time.monotonic() >= end:
+                raise
+            if not is_said:
+                click.echo(f"{why}: waiting for one", err=True)
+                is_said = True
+        time.sleep(_LOOKED_FOR)
+
+
 @main.command("work")
 @_store
 @click.option("--jobs", type=click.IntRange(1), default=os.cpu_count(), show_default=True, help="Processes of this machine.")
-@click.option("--stay", "stays", type=click.FloatRange(0), default=0.0, metavar="SECONDS", help="How long to wait for parts if none is left; inf for ever.")
+@click.option("--stay", "stays", type=click.FloatRange(0), default=0.0, metavar="SECONDS", help="How long to wait for parts, or for an index to be begun, if there is none; inf for ever.")
 @_together
 @_idle_timeout
 def work_command(url: str, jobs: int, stays: float, together: int, patience: float) -> None:
@@ -239,7 +256,7 @@ def work_command(url: str, jobs: int, stays: float, together: int, patience: flo
 
     It takes parts of the archive, and stores what came of them, on any machine that sees the files and reaches the database.
     """
-    store = Store(url)
+    store = _awaited(url, stays)
     watch = Watch(store.url, None)
     store.close()
     with Processes(jobs, partial(work, store.url, Options(together, patience, stays)), _line_of, patience) as processes:

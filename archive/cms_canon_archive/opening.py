@@ -18,6 +18,10 @@ class NoStore(Exception):
     """There is no store to be asked."""
 
 
+class NoIndex(NoStore):
+    """No index has been begun in the store."""
+
+
 def url_of(name: str) -> sa.engine.URL:
     """Returns the URL of a store by its name. Raises `NoStore` if it is none; what it is is not repeated, since it may hold a password."""
     if "://" not in name:

@@ -21,7 +21,7 @@ from sqlalchemy.exc import DBAPIError
 
 from .containers.found import Class
 from .migrating import WrongVersion, alone, migrate, newer, version_in
-from .opening import NoStore, engine_of, is_sqlite, is_writable, own_files, url_of, without_password
+from .opening import NoIndex, NoStore, engine_of, is_sqlite, is_writable, own_files, url_of, without_password
 from .reading import MOST, Part, Row
 from .tables import ABOUT, ALLOWED, BY_DIGEST, FILES, LISTS, MOST_OF_A_KEY, NOT_NEGATIVE, OF_PARTS, PARTS, PLACES, REASONS, SCHEMA, SIGNERS, TIMES
 from .tables import Digest, PartState, columns_of, is_digest
@@ -114,7 +114,7 @@ class Store:
     """A database with a row for each file, and for each place in it at which there is something."""
 
     def __init__(self, name: str, makes: bool = False, wait: Optional[float] = None) -> None:
-        """Opens a store, or makes it if it is not there. Raises `NoStore` if it is not there and is not to be made.
+        """Opens a store, or makes it if it is not there. Raises `NoIndex` if it is not there and is not to be made.
 
         `wait` is how many seconds to wait for another command that uses it.
         """
@@ -122,7 +122,7 @@ class Store:
         self.wait = wait
         self.is_sqlite = is_sqlite(self.url)
         if not makes and self.is_sqlite and not os.path.exists(str(self.url.database)):  # which SQLite would make
-            raise NoStore(f"there is no index in {self.name()}")
+            raise NoIndex(f"there is no index in {self.name()}")
         self.engine = engine_of(self.url, makes, wait)
         try:
             if makes:
@@ -140,7 +140,7 @@ class Store:
         with self.engine.connect() as connection:
             version = version_in(connection)
         if version == 0:
-            raise NoStore(f"there is no index in {self.name()}")
+            raise NoIndex(f"there is no index in {self.name()}")
         if version > SCHEMA:
             raise NoStore(newer(version))
         if version < SCHEMA:

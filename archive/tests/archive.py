@@ -519,6 +519,21 @@ def judge_pipe(home, folder, files, url):
     judge_line_of_parallel(home, folder, files, f"sqlite:///{home}/parallel.db", "SQLite")
 
 
+def judge_early_worker(home, folder, files, url):
+    """A worker that is begun before the index waits for it, and ends with a message if none is begun in time."""
+    alone = ended(home, "work", "--store", url, "--jobs", 1, "--stay", 1)
+    is_so = alone.returncode == 1 and alone.stderr.count("there is no index in") == 2
+    count("a worker without an index", "" if is_so else f"{alone.returncode} {alone.stderr[-500:]}")
+    worker = begun(home, "work", "--store", url, "--jobs", 1, "--stay", 60, stdout=subprocess.DEVNULL, stderr=subprocess.DEVNULL)
+    try:
+        time.sleep(2)
+        indexed = ended(home, "index", folder, "--store", url, "--jobs", 0)
+    finally:
+        worker.terminate()
+        worker.wait(SECONDS)
+    count("a worker begun before the index", indexed.stderr[-500:] if indexed.returncode else differs_from(files, store_of(url)))
+
+
 def judge_line_of_parallel(home, folder, files, url, kind):
     if not tally.has("parallel"):
         return
@@ -562,6 +577,7 @@ def judge_postgresql(home, folder, files, sqlite):
             count_if(f"PostgreSQL, {words.split()[0]}", own == others, "other than SQLite")
         # The line for GNU parallel begins `work`, on this machine as both of its hosts.
         judge_line_of_parallel(home, folder, files, server.make_database("parallel"), "PostgreSQL")
+        judge_early_worker(home, folder, files, server.make_database("early"))
         if tally.has("parallel"):
             names = {name for name, in server.ask("SELECT name FROM workers WHERE parts > 0", database="parallel")}
             count_if("workers begun by it", len(names) > 1, names)
