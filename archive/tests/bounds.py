@@ -31,6 +31,7 @@ MEMORY = 64 << 20
 SLOWEST = 2 / 10e6  # seconds an octet
 OF_A_MESSAGE = 0.3e-3  # seconds
 LEAST = 2  # seconds that any container may take
+REFERENCE = 0.2  # seconds that the loop of `slowness` takes on the processor for which these are said
 MANIFEST = "META-INF/MANIFEST.MF"
 READING = r"""
 import importlib, importlib.util, json, re, sys, time
@@ -199,16 +200,26 @@ def costs(home: Path, paths: List[Path]) -> List[list]:
     return lines
 
 
-def most_seconds(octets: int, messages: int) -> float:
-    """Returns how long it may take to read so many octets with so many messages."""
-    return max(LEAST, SLOWEST * octets + OF_A_MESSAGE * messages)
+def slowness() -> float:
+    """Returns how many times slower this processor is now than that for which the limits are said, as one that is shared; at least 1."""
+    begun, number = time.process_time(), 0
+    for turn in range(2_000_000):
+        number = (number * 31 + turn) & 0xFFFFFFFF
+    return max(1.0, (time.process_time() - begun) / REFERENCE)
+
+
+def most_seconds(octets: int, messages: int, slower: float) -> float:
+    """Returns how long it may take to read so many octets with so many messages, on a processor that is so many times slower."""
+    return slower * max(LEAST, SLOWEST * octets + OF_A_MESSAGE * messages)
 
 
 def judge_evil(home: Path, folder: Path, make: Maker) -> None:
     some = evils(make)
     write_files(folder, {name: it.octets for name, it in some.items()})
-    for (name, it), (memory, seconds, octets, messages, rows) in zip(some.items(), costs(home, [folder / name for name in some])):
-        is_bound = memory <= MEMORY + 2 * it.largest and seconds <= most_seconds(octets, messages)
+    before, found = slowness(), [*costs(home, [folder / name for name in some])]
+    slower = max(before, slowness())
+    for (name, it), (memory, seconds, octets, messages, rows) in zip(some.items(), found):
+        is_bound = memory <= MEMORY + 2 * it.largest and seconds <= most_seconds(octets, messages, slower)
         is_said = not it.is_too_large or any("more than" in note for _, note in rows)
         came = f"{memory >> 20} MB, {seconds:.1f} s, {octets:,} octets, {rows}"
         count_if(f"the bounds for {name}", is_bound and is_said, came)
@@ -232,13 +243,14 @@ def at_random(make: Maker, random: Random) -> Evil:
 
 def judge_search(home: Path, folder: Path, make: Maker, random: Random, seconds: int) -> None:
     """No container that is made at random costs more than it may."""
+    slower = slowness()
     end, number, wrong = time.monotonic() + seconds, 0, []
     while time.monotonic() < end:
         it, number = at_random(make, random), number + 1
         path = write_files(folder, {"evil.asice" if b"ASiCManifest" in it.octets else "evil.jar": it.octets}) / "evil.jar"
         path = path if b"ASiCManifest" not in it.octets else folder / "evil.asice"
         ((memory, took, octets, messages, rows),) = costs(home, [path])
-        if memory > MEMORY + 2 * it.largest or took > most_seconds(octets, messages):
+        if memory > MEMORY + 2 * it.largest or took > most_seconds(octets, messages, slower):
             wrong.append(f"{number}: {memory >> 20} MB, {took:.1f} s, {octets:,} octets, {rows}")
     count_if(f"the bounds for {number} containers at random", number and not wrong, wrong[:3])
 
