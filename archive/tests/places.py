@@ -1,4 +1,4 @@
-"""Where the archive and what it is made of lie, and a copy of its packages as they are installed. What it has from tests/ is found from here on."""
+"""The places of the archive and of its parts, and a copy of its packages as they are installed. After this import, modules of tests/ are found."""
 
 import shutil
 import sys
