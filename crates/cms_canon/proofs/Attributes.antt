@@ -1,5 +1,5 @@
 -- The signed attributes at a path lie in their message, begin with A0, and are covered.
-use Rattle.std.proofs.Common.{◌≡◌, ℕ, ◌+◌, ◌<◌, List, [], ◌∷◌, ◌++◌, Option, Some, None, option_map, option_to_list, slice_get, bytes_eq, inl, inr, refl, sym, ap, ◌∙◌, arith}
+use Rattle.std.proofs.Common.{◌≡◌, ℕ, ◌+◌, ◌<◌, List, [], ◌∷◌, ◌++◌, Option, Some, None, option_map, option_to_list, slice_get, bytes_eq, inl, inr, refl, ap, ◌∙◌, arith}
 use Rattle.std.specs.Option.{option_and_then}
 use Rattle.cms_tlv.specs.Spelling.{Rules, optional}
 use Rattle.cms_fields.specs.Received.{ArePartsOf, times, in_option}

@@ -1,5 +1,5 @@
 -- Which rules a message breaks, by its kind.
-use Rattle.std.specs.Prelude.{◌≡◌, List, ℕ, Option, None, Bool, false, not, ◌==◌}
+use Rattle.std.specs.Prelude.{◌≡◌, List, ℕ, Option, None, false}
 use mathlib.Core.Logic.{inl, inr}
 use Rattle.cms_message.specs.ContentInfo.{content}
 use Rattle.cms_message.specs.Cover.{content_given}

@@ -1,6 +1,6 @@
 -- What converting messages that come one after another promises.
 use Rattle.std.specs.Prelude.{◌≡◌, ◌<◌, ◌≤◌, ◌+◌, ◌-◌, ◌^◌, ◌∷◌, ◌++◌, ℕ, List, length, take, drop}
-use Rattle.std.specs.Prelude.{Option, Result, Ok, Err, ◌⊎◌}
+use Rattle.std.specs.Prelude.{Option, ◌⊎◌}
 use Rattle.std.specs.List.{All, AllZip, flat_map}
 use Rattle.std.specs.Io.KnownBytes.{Consumes}
 use Rattle.cms_tlv.specs.declared.fault.Fault.{Fault}

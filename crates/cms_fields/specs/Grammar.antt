@@ -84,8 +84,8 @@ pub record IsLawful {V : Type 0} (g : Grammar V) : Type 0 where
 
 -- Fields.
 
---- `unread R P s`: what `R` spells; values are the same by `s`, and those with `P` can be written
---- | it has no reader of its own, and what is made of it gives one [`Received`]
+--- `unread R P s`: what `R` spells; values are the same by `s`
+--- | `P` matters only to rows that are left out; what is made of it gives a reader [`Received`]
 abbrev pub unread : {V : Type 0} → (Rules → Spelling V) → (V → Type 0) → (V → V → Bool) → Grammar V
 unread R P s = record {
   spelled = R;
@@ -119,7 +119,8 @@ tagged id g = record {
   malformed = says_inside id g.malformed;
 }
 
---- `primitive id P test reason`: a primitive element with contents `P`, else `reason` [`Primitive`]
+--- `primitive id P test reason`: a primitive element with contents `P`; a reader refuses others for
+---   `reason` [`Primitive`]
 abbrev pub primitive : ℕ → (List ℕ → Type 0) → (List ℕ → Bool) → Reason → Grammar (List ℕ)
 primitive id P test reason = record (tagged id (octets_with P)) {
   is_field = is_primitive_octet id;
@@ -129,7 +130,8 @@ primitive id P test reason = record (tagged id (octets_with P)) {
   malformed = says_malformed id P reason;
 }
 
---- `where_only g Q test reason`: `g` of a value with `Q`, else `reason` [`NonEmptySetOf`]
+--- `where_only g Q test reason`: `g` of a value with `Q`; a reader refuses others for `reason`
+---   [`NonEmptySetOf`]
 abbrev pub where_only : {V : Type 0} → Grammar V → (V → Type 0) → (V → Bool) → Reason → Grammar V
 where_only g Q test reason = record g {
   spelled = λ m. g.spelled m where_value Q;

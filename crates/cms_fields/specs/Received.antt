@@ -12,7 +12,7 @@ use Rattle.cms_tlv.specs.Spelling.{Spelling}
 abbrev pub as_received : (List ℕ → Type 0) → Spelling (List ℕ)
 as_received P b v = (b ≡ v) × P b
 
---- `IsOpaqueAmong allowed b`: `b` is an opaque value whose identifier octet is allowed
+--- `IsOpaqueAmong allowed b`: `b` is an opaque element whose first identifier octet is allowed
 abbrev pub IsOpaqueAmong : (ℕ → Bool) → List ℕ → Type 0
 IsOpaqueAmong allowed b = IsOpaque b × (t : ℕ) × (r : List ℕ) × (b ≡ t ∷ r) × (allowed t ≡ true)
 

@@ -29,7 +29,8 @@ encapsulated_content_info =
     tagged 0x30 (then_by object_identifier_type
     (last_optional (tagged 0xa0 (last (octet_string_type 0x04)))))
 
---- `Signer`, `signer`: a signer of a message: a SignerInfo within 5 levels [RFC 5652, 5.3]
+--- `Signer`, `signer`: a signer of a message: a SignerInfo with at most four levels of
+---   countersignatures below it [RFC 5652, 5.3]
 abbrev pub Signer : Type 0
 Signer = SignerWithin 5
 

@@ -28,7 +28,8 @@ issuer_and_serial_number = tagged 0x30 (then_by (opaque_among is_name) (last int
 abbrev pub SignerIdentifier : Type 0
 SignerIdentifier = IssuerAndSerialNumber ⊎ List ℕ
 
---- `signer_identifier`: IssuerAndSerialNumber, or OCTET STRING 80, constructed A0 [RFC 5652, 5.3]
+--- `signer_identifier`: IssuerAndSerialNumber; or an OCTET STRING, 80, or A0 if it is constructed
+---   [RFC 5652, 5.3]
 abbrev pub signer_identifier : Grammar SignerIdentifier
 signer_identifier = choice issuer_and_serial_number (octet_string_type 0x80)
 

@@ -1,5 +1,5 @@
-//! Sample records, put together from the parts that the kernel has: they show what a record costs, and
-//! are terms for tests.
+//! Sample records, put together from the parts that `cms_fields` has: they show what a record costs,
+//! and are terms for tests.
 #![tactic(auto)]
 
 mod chosen;

@@ -20,11 +20,12 @@ use Rattle.cms_scalars.specs.Scalars.{IsInteger, IsObjectIdentifier}
 use Rattle.cms_scalars.specs.Times.{IsGeneralizedTime}
 use Rattle.cms_scalars.specs.TimeReaders.{is_generalized_time}
 
---- `integer_type`: what `integer` spells [X.690, 8.3]
+--- `integer_type`: a primitive element 02 whose contents are `IsInteger` [X.690, 8.3]
 abbrev pub integer_type : Grammar (List ℕ)
 integer_type = primitive 0x02 IsInteger is_integer IntegerMalformed
 
---- `object_identifier_type`: what `object_identifier` spells [X.690, 8.19]
+--- `object_identifier_type`: a primitive element 06 whose contents are `IsObjectIdentifier`
+---   [X.690, 8.19]
 abbrev pub object_identifier_type : Grammar (List ℕ)
 object_identifier_type = primitive 0x06 IsObjectIdentifier is_object_identifier OidMalformed
 

@@ -36,7 +36,7 @@ pub record EndInContentType (octets : List ℕ) (P : List ℕ → Type 0) : Type
   pub is_element : IsElement element 0x06 contents
   pub says : P contents
 
---- `IsMalformed reason octets`: what `octets` end in; for any other reason it is false:
+--- `IsMalformed reason octets`: what `octets` end in, by the reason; false for any not listed:
 --- | E8 to E11: an element whose contents are no INTEGER, OBJECT IDENTIFIER, BOOLEAN or BIT STRING
 --- | E17: a content type that is an OBJECT IDENTIFIER, and not id-signedData [RFC 5652, 3]
 abbrev pub IsMalformed : Reason → List ℕ → Type 0

@@ -9,7 +9,7 @@ use Rattle.cms_fields.specs.Grammar.{Grammar, where_only}
 use Rattle.cms_setof.specs.Readers.{has_member}
 use Rattle.cms_setof.specs.Same.{same_members}
 
---- `set_of g`: a set of the fields `g` (in `cms_setof`) [`SetOf`]
+--- `set_of g`: the contents of a SET OF: fields `g` (in `cms_setof`) [`SetOf`]
 abbrev pub set_of : {V : Type 0} → Grammar V → Grammar (List V)
 set_of g = record {
   spelled = λ m. members m (g.spelled m);
@@ -24,6 +24,6 @@ set_of g = record {
   malformed = says_later g.has_paths g.malformed;
 }
 
---- `some_of g`: a set of at least one field `g` (in `cms_setof`) [`NonEmptySetOf`]
+--- `some_of g`: the contents of such a set of at least one field `g` [`NonEmptySetOf`]
 abbrev pub some_of : {V : Type 0} → Grammar V → Grammar (List V)
 some_of g = where_only (set_of g) (λ vs. vs ≢ []) has_member EmptyAttributes

@@ -4,8 +4,7 @@ use Rattle.cms_tlv.specs.Headers.{AreOctets, IsConstructed, IsIdentifier, IsShor
 use Rattle.cms_tlv.specs.Spelling.{Spelling}
 
 --- `IsPrimitiveType k`: an element of the universal type with the tag number `k` has to be
----   primitive, as it is in DER [X.690, 8.2 to 8.4, 8.6 to 8.8, 8.19, 8.23,
----   8.25, 10.2]
+---   primitive, as it is in DER [X.690, 8.2 to 8.4, 8.6 to 8.8, 8.19, 8.23, 8.25, 10.2]
 --- | this is not asked of ObjectDescriptor, REAL, RELATIVE-OID and TIME (7, 9, 13, 14), nor of tag
 ---   numbers above 30 [ours]
 abbrev pub IsPrimitiveType : ℕ → Type 0
@@ -20,7 +19,7 @@ pub record HasItsForm (t : ℕ) : Type 0 where
 
 mutual
   --- `IsFramed b d`: `b` is an element at depth `d`, which is at most 64 [ours]
-  --- | its identifier is not 00 and `HasItsForm`; its length octets are the shortest [X.690, 10.1]
+  --- | its identifier is not 00, and it `HasItsForm`; its length is the shortest [X.690, 10.1]
   --- | if its identifier is constructed, its contents are such elements at depth `d + 1` [ours]
   pub data IsFramed : List ℕ → ℕ → Type 0 where
     primitive : {t : ℕ} {i l : List ℕ} (c : List ℕ) (d : ℕ) → d ≤ 64 → IsIdentifier t i → t ≢ 0

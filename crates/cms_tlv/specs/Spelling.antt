@@ -15,7 +15,7 @@ pub data Rules : Type 0 where
 abbrev pub Spelling : Type 0 → Type 1
 Spelling V = List ℕ → V → Type 0
 
---- `IsElementBy m b id c`: by BER `IsElement`, else `IsDerElement` [X.690, 8.1.1, 10.1]
+--- `IsElementBy m b id c`: by BER `IsElement`, by DER `IsDerElement` [X.690, 8.1.1, 10.1]
 abbrev pub IsElementBy : Rules → List ℕ → ℕ → List ℕ → Type 0
 IsElementBy ber b id c = IsElement b id c
 IsElementBy minimal b id c = IsDerElement b id c
@@ -40,7 +40,7 @@ abbrev pub either : {V W : Type 0} → Spelling V → Spelling W → Spelling (V
 either R S b (inl v) = R b v
 either R S b (inr w) = S b w
 
---- `InOrder m bs`: by BER in any order, else ascending [X.690, 11.6]
+--- `InOrder m bs`: by BER in any order, by DER ascending [X.690, 11.6]
 abbrev pub InOrder : Rules → List (List ℕ) → Type 0
 InOrder ber bs = ⊤
 InOrder minimal bs = Ascends bs

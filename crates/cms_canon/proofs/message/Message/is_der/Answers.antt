@@ -1,4 +1,4 @@
-use Rattle.std.proofs.Common.{refl, ap, sym, subst, arith}
+use Rattle.std.proofs.Common.{refl, ap, arith}
 use Rattle.cms_tlv.specs.Spelling.{ber}
 use Rattle.cms_canon.specs.Whole.{Whole}
 use Rattle.cms_canon.proofs.Messages.{kept_is_der}
