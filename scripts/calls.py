@@ -30,6 +30,7 @@ JAVA_AND_RUST = {  # each type of the header, as it is declared there
     "const uint64_t *": ("long[]", "*const u64"),
     "struct cms_canon_outcome *": ("long[]", "*mut Outcome"),
     "struct cms_canon_many *": ("long[]", "*mut ManyOutcome"),
+    "struct cms_canon_extent *": ("long[]", "*mut u64"),
     "struct cms_canon_finding *": ("long[]", "*mut Finding"),
     "struct cms_canon_digest_asked *": ("int[]", "*mut DigestAsked"),
     "const struct cms_canon_digest *": ("int[]", "*const Digest"),

@@ -23,8 +23,8 @@
  * writes. cms_canon_fields says with one reading where all fields of all signers lie; a verifier that asks for the cover of each
  * signer in turn takes time in proportion to the square of their number.
  *
- * No pointer may be NULL, even with a length of 0. `output`, `findings`, `fields`, `asked`, `outcome` and `many` must not overlap one
- * another or an input. A call must not be made from a signal handler, or from the forked child of a process with several threads.
+ * No pointer may be NULL, even with a length of 0. `output`, `findings`, `fields`, `asked`, `outcome`, `many` and `extent` must not overlap
+ * one another or an input. A call must not be made from a signal handler, or from the forked child of a process with several threads.
  */
 #ifndef CMS_CANON_H
 #define CMS_CANON_H
@@ -123,6 +123,37 @@ struct cms_canon_many {
  */
 void cms_canon_convert_many(const uint8_t *input, size_t input_length, uint64_t limit,
                             uint8_t *output, size_t output_room, struct cms_canon_many *many);
+
+/* The values of `reach`. */
+enum cms_canon_reach {
+    CMS_CANON_MORE = 0,          /* octets are missing: they are a proper prefix of an element */
+    CMS_CANON_WHOLE = 1,         /* the element is whole: its length is `end` */
+    CMS_CANON_NOTHING = 2,       /* no element of at most `limit` octets begins so: cms_canon_convert says why */
+    CMS_CANON_REACH_UNKNOWN = 3  /* malloc failed: call again with this extent */
+};
+
+/* How far an element reaches (X.690, section 8.1). */
+struct cms_canon_extent {
+    uint64_t end;     /* how many octets of the input were passed: headers of indefinite length, and whole elements after them */
+    uint64_t unended; /* how many elements of indefinite length have not ended there */
+    uint32_t reach;   /* enum cms_canon_reach */
+};
+
+/*
+ * Finds how far the element reaches that the `input_length` octets at `input` begin with: so a caller whose octets come in pieces
+ * learns when a whole message is there, and has it converted once. In the first call all of `extent` is 0. In a later one it is as the
+ * call before left it, and the input is that of the call before and the octets that have come since: the call goes on at the header
+ * where the one before stopped. All calls for a message take time in proportion to its headers and to the number of calls. If
+ * `extent` was changed, or the call before said otherwise than CMS_CANON_MORE, the extent says nothing.
+ *
+ *     struct cms_canon_extent extent = {0};
+ *     do
+ *         length += read_more(input + length);
+ *     while (cms_canon_extent(input, length, CMS_CANON_LIMIT, &extent), extent.reach == CMS_CANON_MORE);
+ *
+ * Only headers are read, and not what is in elements of definite length: whether the element is a message, cms_canon_convert says.
+ */
+void cms_canon_extent(const uint8_t *input, size_t input_length, uint64_t limit, struct cms_canon_extent *extent);
 
 /*
  * Writes the octets that a signature covers (RFC 5652, sections 5.4 and 11.4), which a verifier digests: that of a signer of the

@@ -1,7 +1,7 @@
 /*
- * Checks of the calls of the library for C that the vectors do not make: rooms that are too small, messages one after another, octets,
- * findings and rows around the output, lengths of 0, limits, paths, parts, fields, digests, and four threads at once. Prints a line for each failed check, and how many passed and
- * failed.
+ * Checks of the calls of the library for C that the vectors do not make: rooms that are too small, messages one after another,
+ * extents, octets, findings and rows around the output, lengths of 0, limits, paths, parts, fields, digests, and four threads at once.
+ * Prints a line for each failed check, and how many passed and failed.
  */
 #define CMS_CANON_DEPRECATED /* cms_canon_part is checked as long as it is there */
 #include <cms_canon.h>
@@ -434,6 +434,57 @@ static void check_many(void)
     check("a limit of many above 2^40", many.outcome.status == CMS_CANON_DONE && many.messages == 1);
 }
 
+static bool is_extent(const struct cms_canon_extent *extent, uint64_t end, uint64_t unended, uint32_t reach)
+{
+    return extent->end == end && extent->unended == unended && extent->reach == reach;
+}
+
+/* The first `end` octets of the message are headers of `unended` elements of indefinite length, and whole elements. */
+static void check_extents(void)
+{
+    static const uint8_t long_element[] = {0x30, 0x84, 0x10, 0x00, 0x00, 0x01}, reserved[] = {0x30, 0x80, 0x04, 0xff},
+                         end[] = {0x00, 0x00}, primitive[] = {0x04, 0x80};
+    struct cms_canon_extent extent = {0}, from_nothing;
+    for (size_t length = 0; length < sizeof message; length++) {
+        from_nothing = (struct cms_canon_extent){0};
+        cms_canon_extent(message, length, CMS_CANON_LIMIT, &extent);
+        cms_canon_extent(message, length, CMS_CANON_LIMIT, &from_nothing);
+        check("octets are missing", extent.reach == CMS_CANON_MORE && extent.end <= length);
+        check("the same from the first octet", is_extent(&from_nothing, extent.end, extent.unended, extent.reach));
+    }
+    cms_canon_extent(message, sizeof message, CMS_CANON_LIMIT, &extent);
+    check("a whole message", is_extent(&extent, sizeof message, 0, CMS_CANON_WHOLE));
+    extent = (struct cms_canon_extent){0};
+    cms_canon_extent(countersigned, sizeof countersigned - 1, sizeof countersigned, &extent);
+    check("an octet of a definite length is missing", is_extent(&extent, 0, 0, CMS_CANON_MORE));
+    cms_canon_extent(countersigned, sizeof countersigned, sizeof countersigned, &extent);
+    check("a whole message of a definite length", is_extent(&extent, sizeof countersigned, 0, CMS_CANON_WHOLE));
+    extent = (struct cms_canon_extent){0};
+    cms_canon_extent(countersigned, sizeof countersigned, sizeof countersigned - 1, &extent);
+    check("a message past the limit", is_extent(&extent, 0, 0, CMS_CANON_NOTHING));
+    extent = (struct cms_canon_extent){0};
+    cms_canon_extent(message, sizeof message, sizeof message - 1, &extent);
+    check("an end of contents past the limit", extent.reach == CMS_CANON_NOTHING && extent.unended == 1);
+    extent = (struct cms_canon_extent){0};
+    cms_canon_extent(long_element, sizeof long_element, CMS_CANON_LIMIT, &extent);
+    check("a length past the limit", is_extent(&extent, 0, 0, CMS_CANON_NOTHING));
+    extent = (struct cms_canon_extent){0};
+    cms_canon_extent(reserved, sizeof reserved, CMS_CANON_LIMIT, &extent);
+    check("a reserved length inside", is_extent(&extent, 2, 1, CMS_CANON_NOTHING));
+    extent = (struct cms_canon_extent){0};
+    cms_canon_extent(primitive, sizeof primitive, CMS_CANON_LIMIT, &extent);
+    check("a primitive element of indefinite length", is_extent(&extent, 0, 0, CMS_CANON_NOTHING));
+    extent = (struct cms_canon_extent){0};
+    cms_canon_extent(end, sizeof end, CMS_CANON_LIMIT, &extent);
+    check("an element of two zeros", is_extent(&extent, 2, 0, CMS_CANON_WHOLE));
+    extent = (struct cms_canon_extent){.end = UINT64_MAX, .unended = UINT64_MAX};
+    cms_canon_extent(message, sizeof message, CMS_CANON_LIMIT, &extent);
+    check("an extent that no call wrote", extent.reach == CMS_CANON_NOTHING);
+    extent = (struct cms_canon_extent){.end = sizeof message, .unended = sizeof message};
+    cms_canon_extent(message, sizeof message, UINT64_MAX, &extent);
+    check("one at the last octet", is_extent(&extent, sizeof message, sizeof message, CMS_CANON_MORE));
+}
+
 static void *convert_often(void *wrong)
 {
     uint8_t output[sizeof der];
@@ -478,6 +529,7 @@ int main(void)
     check_comparisons();
     check_listing();
     check_many();
+    check_extents();
     check_threads();
     printf("%d passed, %d failed\n", passed, failed);
     return failed != 0;

@@ -109,14 +109,14 @@ def convert_many(chunks: Iterable[Octets], limit: int = LIMIT) -> Iterator[bytes
 
 
 def _each_converted(chunks: Iterable[Octets], limit: int) -> Iterator[bytes]:
-    kept, extent, done, begins = bytearray(), _Extent(), 0, 0
+    kept, extent, done, begins = bytearray(), _calls.Extent(), 0, 0
     for chunk in chunks:
         octets = _calls.octets_of(chunk)
-        # The library reads a message from its beginning in each call. A message that began in a chunk before is asked for once its
-        # headers say that all of it has come, and not at each chunk, which would take time in proportion to the square of its length.
+        # The library reads a message from its beginning in each call. A message that began in a chunk before is asked for once all of it
+        # has come, and not at each chunk, which would take time in proportion to the square of its length.
         if kept:
             kept += octets
-            if not extent.is_reached(kept, limit):
+            if _is_missing_octets(kept, limit, extent):
                 continue
             octets = bytes(kept)
         outcome, messages, read, ders = _converted(octets, limit)
@@ -129,72 +129,32 @@ def _each_converted(chunks: Iterable[Octets], limit: int) -> Iterator[bytes]:
             raise _calls.error_of(outcome, number=done, begins=begins)
         kept.clear()
         if read < len(octets):
-            kept, extent = bytearray(memoryview(octets)[read:]), _Extent()
+            kept, extent = bytearray(memoryview(octets)[read:]), _calls.Extent()
     outcome, messages, read, ders = _converted(bytes(kept), limit)
     yield from _elements(ders)
     if outcome.status == _calls.REFUSED:
         raise _calls.error_of(outcome, number=done + messages, begins=begins + read)
 
 
-class _Extent:
-    """How far the first element reaches, of octets that come in pieces: its header says it, or else the headers inside."""
-
-    def __init__(self) -> None:
-        self._end = 0  # of the header or element that was read last
-        self._open = 0  # how many elements of indefinite length have not ended there
-
-    def is_reached(self, octets: bytearray, limit: int) -> bool:
-        """Whether all of the element is there, or it goes past the limit. The octets begin with those of the call before."""
-        while self._end <= limit and (self._open or not self._end):
-            header = _header(octets, self._end)
-            if header is None:
-                return False
-            length, contents = header
-            is_close = octets[self._end : self._end + 2] == b"\0\0"
-            self._end += length + (contents or 0)
-            if contents is None:
-                self._open += 1
-            elif is_close and self._open:
-                self._open -= 1
-        return self._end > limit or self._end <= len(octets)
-
-
-def _header(octets: Union[bytes, bytearray], at: int) -> Optional[Tuple[int, Optional[int]]]:
-    """How many octets the header at `at` has, and how many its contents have: None if their length is indefinite.
-
-    None if the header is cut. A header that is malformed counts as one with contents beyond any limit.
-    """
-    head = octets[at : at + 6]
-    malformed = len(head), _calls.MAX_NUMBER
-    end = 1  # of the identifier
-    if head and head[0] & 0x1F == 0x1F:
-        while end < len(head) and head[end] & 0x80:
-            end += 1
-        end += 1
-        if end > 5:
-            return malformed
-    if end >= len(head):
-        return None
-    first = head[end]
-    if first < 0x80:
-        return end + 1, first
-    if first == 0x80:
-        return (end + 1, None) if head[0] & 0x20 else malformed
-    count = first - 0x80
-    if count > 8:
-        return malformed
-    length = octets[at + end + 1 : at + end + 1 + count]
-    return (end + 1 + count, int.from_bytes(length, "big")) if len(length) == count else None
+def _is_missing_octets(octets: bytearray, limit: int, extent: _calls.Extent) -> bool:
+    """Whether the element that the octets begin with is not whole. The extent is that of the call before, with fewer of these octets."""
+    address = ctypes.addressof(ctypes.c_char.from_buffer(octets))
+    _calls.library.cms_canon_extent(ctypes.c_char_p(address), len(octets), limit, extent)
+    if extent.reach == _calls.UNKNOWN:
+        raise MemoryError("out of memory")
+    return bool(extent.reach == _calls.MORE)
 
 
 def _elements(ders: bytes) -> Iterator[bytes]:
     """The elements in DER, one after another."""
-    at = 0
+    at, address = 0, ctypes.cast(ders, ctypes.c_void_p).value or 0
     while at < len(ders):
-        header = _header(ders, at)
-        assert header is not None and header[1] is not None
-        yield ders[at : at + header[0] + header[1]]
-        at += header[0] + header[1]
+        extent = _calls.Extent()
+        _calls.library.cms_canon_extent(ctypes.c_char_p(address + at), len(ders) - at, len(ders), extent)
+        if extent.reach != _calls.WHOLE:
+            raise MemoryError("out of memory")
+        yield ders[at : at + extent.end]
+        at += extent.end
 
 
 def _converted(octets: bytes, limit: int) -> Tuple[_calls.Outcome, int, int, bytes]:

@@ -42,6 +42,12 @@ class Many(ctypes.Structure):
     _fields_ = [("outcome", Outcome), ("messages", ctypes.c_uint64), ("read", ctypes.c_uint64)]
 
 
+class Extent(ctypes.Structure):
+    _fields_ = [("end", ctypes.c_uint64), ("unended", ctypes.c_uint64), ("reach", ctypes.c_uint32)]
+
+
+MORE, WHOLE, UNKNOWN = 0, 1, 3  # values of `reach`
+
 _TYPES = {  # of the arguments, as the header has them
     "bool": ctypes.c_bool,
     "size_t": ctypes.c_size_t,
@@ -55,6 +61,7 @@ _TYPES = {  # of the arguments, as the header has them
     "struct cms_canon_row *": ctypes.c_void_p,
     "struct cms_canon_outcome *": ctypes.POINTER(Outcome),
     "struct cms_canon_many *": ctypes.POINTER(Many),
+    "struct cms_canon_extent *": ctypes.POINTER(Extent),
 }
 
 library = ctypes.CDLL(str(Path(__file__).with_name("libcms_canon.so")))

@@ -17,6 +17,12 @@ PROTOTYPES = {
         "size_t",  # output_room
         "struct cms_canon_many *",  # many
     ),
+    "cms_canon_extent": (
+        "const uint8_t *",  # input
+        "size_t",  # input_length
+        "uint64_t",  # limit
+        "struct cms_canon_extent *",  # extent
+    ),
     "cms_canon_cover": (
         "const uint8_t *",  # input
         "size_t",  # input_length

@@ -201,7 +201,7 @@ class Many(unittest.TestCase):
         call = library.cms_canon_convert_many
         chunks = [MESSAGE, DER, COUNTERSIGNED, MESSAGE]
         with mock.patch.object(library, "cms_canon_convert_many", converted):
-            with mock.patch.object(cms_canon, "_header", side_effect=AssertionError("a header was read")):
+            with mock.patch.object(library, "cms_canon_extent", side_effect=AssertionError("a header was read")):
                 self.assertEqual([*cms_canon.convert_many(chunks)], [DER, DER, COUNTERSIGNED, DER])
         self.assertEqual(len(handed), len(chunks) + 1)  # and what is left after all of them, which is nothing
         for octets, chunk in zip(handed, [*chunks, b""]):
@@ -218,6 +218,15 @@ class Many(unittest.TestCase):
         with mock.patch.object(library, "cms_canon_convert_many", converted):
             self.assertEqual([*cms_canon.convert_many(bytes([octet]) for octet in MESSAGE + DER)], [DER] * 2)
         self.assertEqual(lengths, [1, len(MESSAGE), 1, len(DER), 0])
+
+    def test_without_memory_for_an_extent(self):
+        def fail(octets, length, limit, extent):
+            extent.reach = 3
+
+        with mock.patch.object(library, "cms_canon_extent", fail):
+            for chunks in ([MESSAGE[:5], MESSAGE[5:]], [MESSAGE + DER]):
+                with self.assertRaises(MemoryError):
+                    [*cms_canon.convert_many(chunks)]
 
     def test_a_message_of_many_chunks_takes_time_in_proportion(self):
         inner = element(0x04, bytes(65530)) * 320

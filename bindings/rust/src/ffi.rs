@@ -67,6 +67,9 @@ extern "C" {
     fn cms_canon_convert_many(
         input: *const u8, input_length: usize, limit: u64, output: *mut u8, output_room: usize, many: *mut ManyOutcome,
     );
+    fn cms_canon_extent(
+        input: *const u8, input_length: usize, limit: u64, extent: *mut u64,
+    );
     fn cms_canon_cover(
         input: *const u8, input_length: usize, path: *const u64, path_length: usize, content: *const u8, content_length: usize,
         has_content: bool, limit: u64, output: *mut u8, output_room: usize, outcome: *mut Outcome,

@@ -1,2 +1,3 @@
 mod Prefixes
 mod Conversions
+mod Extents

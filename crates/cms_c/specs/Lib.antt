@@ -1,5 +1,6 @@
 pub mod Calls
 pub mod Digests
+pub mod Extents
 pub mod Many
 pub mod Outcomes
 pub mod Parts

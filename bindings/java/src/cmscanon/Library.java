@@ -56,6 +56,9 @@ final class Library {
     static native void cms_canon_convert_many(
             byte[] input, long inputLength, long limit, byte[] output, long outputRoom, long[] many);
 
+    static native void cms_canon_extent(
+            byte[] input, long inputLength, long limit, long[] extent);
+
     static native void cms_canon_cover(
             byte[] input, long inputLength, long[] path, long pathLength, byte[] content, long contentLength, byte hasContent,
             long limit, byte[] output, long outputRoom, long[] outcome);
