@@ -1,11 +1,15 @@
 package cmscanon;
 
-import static cmscanon.Checks.DATA;
-import static cmscanon.Checks.cameOf;
-import static cmscanon.Checks.element;
-import static cmscanon.Checks.message;
-import static cmscanon.Checks.octets;
-import static cmscanon.Checks.signer;
+import static cmscanon.Samples.DATA;
+import static cmscanon.Samples.cameOf;
+import static cmscanon.Samples.element;
+import static cmscanon.Samples.message;
+import static cmscanon.Samples.octets;
+import static cmscanon.Samples.signer;
+import static org.junit.jupiter.api.Assertions.assertEquals;
+import static org.junit.jupiter.api.Assertions.assertFalse;
+import static org.junit.jupiter.api.Assertions.assertThrows;
+import static org.junit.jupiter.api.Assertions.assertTrue;
 
 import java.io.ByteArrayInputStream;
 import java.io.IOException;
@@ -20,12 +24,13 @@ import java.util.Arrays;
 import java.util.HexFormat;
 import java.util.List;
 import java.util.concurrent.Callable;
+import org.junit.jupiter.api.Test;
 
 /**
- * Checks of {@link CmsCanon#checkStreams}: that its findings are those of {@link CmsCanon#check}, what it reads, and streams,
- * providers and a library that misbehave.
+ * {@link CmsCanon#checkStreams}: its findings are those of {@link CmsCanon#check}; what it reads; and streams, providers and a
+ * library that misbehave.
  */
-public final class Streams {
+final class StreamsTest {
     /** The contents of the OBJECT IDENTIFIER of each digest algorithm, in the order of {@link DigestAlgorithm}. */
     private static final List<String> OIDS = List.of("2b0e03021a", "608648016503040204", "608648016503040201", "608648016503040202",
             "608648016503040203", "608648016503040205", "608648016503040206");
@@ -37,16 +42,12 @@ public final class Streams {
     private static final byte[] CONTENT = new byte[2 * PIECE + 7];
     private static final byte[] OTHER = CONTENT.clone();
 
-    private static final Checks CHECKS = new Checks();
-
     static {
         for (int i = 0; i < CONTENT.length; i++) {
             CONTENT[i] = (byte) (i * i >>> 3);
         }
         System.arraycopy(CONTENT, 0, OTHER, 0, CONTENT.length - 1); // the last octet differs
     }
-
-    private Streams() {}
 
     // ---- messages
 
@@ -188,18 +189,19 @@ public final class Streams {
                 InputStream first = stream(content, most);
                 InputStream second = stream(stamped, most);
                 Object came = CmsCanon.checkStreams(data, first, second, verifier, CmsCanon.LIMIT);
-                CHECKS.equal(what + ", " + most + " octets at a time, verifier " + verifier, wanted, came.toString());
+                assertEquals(wanted, came.toString(), what + ", " + most + " octets at a time, verifier " + verifier);
             }
         }
         return wanted;
     }
 
-    private static void checkContent() throws CmsCanon.Refused, IOException {
+    @Test
+    void content() throws CmsCanon.Refused, IOException {
         String right = sameFindings("the content", byAll(), CONTENT, null);
         String wrong = sameFindings("other content", byAll(), OTHER, null);
-        CHECKS.equal("no digest differs", 0, right.split("F7 ", -1).length - 1);
-        CHECKS.equal("each digest differs", 8, wrong.split("F7 ", -1).length - 1);
-        CHECKS.equal("no content", true, sameFindings("no content", byAll(), null, null).contains("F9 "));
+        assertEquals(0, right.split("F7 ", -1).length - 1, "no digest differs");
+        assertEquals(8, wrong.split("F7 ", -1).length - 1, "each digest differs");
+        assertTrue(sameFindings("no content", byAll(), null, null).contains("F9 "), "no content");
         sameFindings("empty content", byAll(), new byte[0], null);
         for (int name = 0; name < NAMES.size(); name++) {
             sameFindings("content by " + NAMES.get(name), detached("", name), CONTENT, null);
@@ -210,14 +212,15 @@ public final class Streams {
         sameFindings("no signed attributes", detached(signer(2, "0401bb"), 0, SHA_256), OTHER, null);
     }
 
-    private static void checkStamped() throws CmsCanon.Refused, IOException {
+    @Test
+    void stamped() throws CmsCanon.Refused, IOException {
         byte[] request = request(CONTENT);
-        CHECKS.equal("the data", "[]", sameFindings("the data", request, null, CONTENT));
-        CHECKS.equal("other data", "[F14 imprint differs]", sameFindings("other data", request, null, OTHER));
-        CHECKS.equal("data of no token", true, sameFindings("data of no token", byAll(), CONTENT, CONTENT).contains("F11 "));
+        assertEquals("[]", sameFindings("the data", request, null, CONTENT), "the data");
+        assertEquals("[F14 imprint differs]", sameFindings("other data", request, null, OTHER), "other data");
+        assertTrue(sameFindings("data of no token", byAll(), CONTENT, CONTENT).contains("F11 "), "data of no token");
         String right = sameFindings("a detached token", detachedToken(), tstInfo(), CONTENT);
         String wrong = sameFindings("a detached token, other data", detachedToken(), tstInfo(), OTHER);
-        CHECKS.equal("a detached token", List.of(false, true), List.of(right.contains("F14 "), wrong.contains("F14 ")));
+        assertEquals(List.of(false, true), List.of(right.contains("F14 "), wrong.contains("F14 ")), "a detached token");
         sameFindings("a detached token, no TSTInfo", detachedToken(), CONTENT, CONTENT);
         sameFindings("a detached token, no content", detachedToken(), null, CONTENT);
         sameFindings("a detached token, no data", detachedToken(), tstInfo(), null);
@@ -228,10 +231,11 @@ public final class Streams {
             throws CmsCanon.Refused, IOException {
         Watched stream = new Watched(content, Integer.MAX_VALUE);
         CmsCanon.checkStreams(data, stream, null, verifier, CmsCanon.LIMIT);
-        CHECKS.equal(what, wanted, stream.use());
+        assertEquals(wanted, stream.use(), what);
     }
 
-    private static void checkUses() throws CmsCanon.Refused, IOException {
+    @Test
+    void uses() throws CmsCanon.Refused, IOException {
         CmsCanon.Verifier good = job -> CmsCanon.Verdict.GOOD;
         String once = PIECE + " at a time, 1 ends";
         String never = "0 at a time, 0 ends";
@@ -247,43 +251,49 @@ public final class Streams {
         checkUse("no digest", never, message(DATA, signers), CONTENT, null);
         Watched stamped = new Watched(CONTENT, Integer.MAX_VALUE);
         checked(request(CONTENT), null, stamped);
-        CHECKS.equal("data", once, stamped.use());
+        assertEquals(once, stamped.use(), "data");
     }
 
-    private static void checkCovered() throws CmsCanon.Refused, IOException {
+    @Test
+    void covered() throws CmsCanon.Refused, IOException {
         List<String> covered = new ArrayList<>();
         byte[] content = "covered".getBytes(StandardCharsets.US_ASCII);
         CmsCanon.checkStreams(detached(signer(2, "0401bb"), SHA_256), new Watched(content, 3), null, job -> {
             covered.add(job.signer == 1 ? new String(job.covered(), StandardCharsets.US_ASCII) : "attributes");
             return CmsCanon.Verdict.GOOD;
         }, CmsCanon.LIMIT);
-        CHECKS.equal("what signatures cover", List.of("attributes", "covered"), covered);
+        assertEquals(List.of("attributes", "covered"), covered, "what signatures cover");
     }
 
     /** A stream that is read into memory may have as many octets as the limit. */
-    private static void checkLimitsOfMemory() throws CmsCanon.Refused, IOException {
+    @Test
+    void limitsOfMemory() throws CmsCanon.Refused, IOException {
         CmsCanon.Verifier good = job -> CmsCanon.Verdict.GOOD;
         byte[] covering = detached(signer(2, "0401bb"), SHA_256);
         for (int limit : new int[] {1000, CONTENT.length - 1, CONTENT.length, CONTENT.length + 1}) {
             String refused = "2 " + (limit + 1) + " refused E2 TooLarge at " + (limit + 1);
             String ofContent = cameOf(() -> CmsCanon.check(covering, CONTENT, null, good, limit));
-            CHECKS.equal("covered content under the limit " + limit, limit < CONTENT.length ? refused : ofContent,
-                    cameOf(() -> CmsCanon.checkStreams(covering, stream(CONTENT, 1000), null, good, limit)));
+            assertEquals(limit < CONTENT.length ? refused : ofContent,
+                    cameOf(() -> CmsCanon.checkStreams(covering, stream(CONTENT, 1000), null, good, limit)),
+                    "covered content under the limit " + limit);
             String ofData = cameOf(() -> CmsCanon.check(detachedToken(), tstInfo(), CONTENT, null, limit));
-            CHECKS.equal("data of a detached token under the limit " + limit, limit < CONTENT.length ? refused : ofData,
-                    cameOf(() -> CmsCanon.checkStreams(detachedToken(), stream(tstInfo(), 7), stream(CONTENT, 1000), null, limit)));
+            assertEquals(limit < CONTENT.length ? refused : ofData,
+                    cameOf(() -> CmsCanon.checkStreams(detachedToken(), stream(tstInfo(), 7), stream(CONTENT, 1000), null, limit)),
+                    "data of a detached token under the limit " + limit);
         }
-        CHECKS.equal("the largest limit", CmsCanon.check(covering, CONTENT, null, good, CmsCanon.LIMIT),
-                CmsCanon.checkStreams(covering, stream(CONTENT, 1000), null, good, 1L << 40));
-        CHECKS.equal("content that is digested under a small limit", CmsCanon.check(covering, CONTENT, null, null, 1000),
-                CmsCanon.checkStreams(covering, stream(CONTENT, 1000), null, null, 1000));
+        assertEquals(CmsCanon.check(covering, CONTENT, null, good, CmsCanon.LIMIT),
+                CmsCanon.checkStreams(covering, stream(CONTENT, 1000), null, good, 1L << 40), "the largest limit");
+        assertEquals(CmsCanon.check(covering, CONTENT, null, null, 1000),
+                CmsCanon.checkStreams(covering, stream(CONTENT, 1000), null, null, 1000),
+                "content that is digested under a small limit");
         InputStream endless = reading((to, start, length) -> length);
-        CHECKS.equal("covered content without an end", "2 1001 refused E2 TooLarge at 1001",
-                cameOf(() -> CmsCanon.checkStreams(covering, endless, null, good, 1000)));
+        assertEquals("2 1001 refused E2 TooLarge at 1001",
+                cameOf(() -> CmsCanon.checkStreams(covering, endless, null, good, 1000)), "covered content without an end");
     }
 
     /** A stream that is longer than the memory of this program; the test gives it little. */
-    private static void checkLongContent() throws CmsCanon.Refused, IOException {
+    @Test
+    void longContent() throws CmsCanon.Refused, IOException {
         byte[] zeros = new byte[PIECE];
         long pieces = Runtime.getRuntime().maxMemory() / PIECE + 1;
         MessageDigest digest = sha(SHA_256);
@@ -297,7 +307,7 @@ public final class Streams {
                 Arrays.fill(to, start, start + most, (byte) 0);
                 return left[0]-- > 0 ? most : -1;
             }), null).toString();
-            CHECKS.equal("content of " + length + " pieces", length != pieces, came.contains("F7 "));
+            assertEquals(length != pieces, came.contains("F7 "), "content of " + length + " pieces");
         }
     }
 
@@ -310,60 +320,66 @@ public final class Streams {
         });
     }
 
-    private static void checkStreamsThatMisbehave() {
+    @Test
+    void streamsThatMisbehave() {
         IOException fault = new IOException("of the stream");
         Reading failing = (to, start, length) -> {
             throw fault;
         };
         String wanted = fault.toString();
-        CHECKS.equal("content that fails at once", wanted, cameOf(() -> checked(byAll(), reading(failing), null)));
-        CHECKS.equal("content that fails", wanted, cameOf(() -> checked(byAll(), ending(failing), null)));
-        CHECKS.equal("data that fail", wanted, cameOf(() -> checked(request(CONTENT), null, ending(failing))));
-        CHECKS.equal("a TSTInfo that fails", wanted, cameOf(() -> checked(detachedToken(), ending(failing), null)));
-        CHECKS.equal("data of a detached token that fail", wanted,
-                cameOf(() -> checked(detachedToken(), stream(tstInfo(), 7), ending(failing))));
-        CHECKS.equal("covered content that fails", wanted, cameOf(() -> CmsCanon.checkStreams(
-                detached(signer(2, "0401bb"), SHA_256), ending(failing), null, job -> CmsCanon.Verdict.GOOD, CmsCanon.LIMIT)));
+        assertEquals(wanted, cameOf(() -> checked(byAll(), reading(failing), null)), "content that fails at once");
+        assertEquals(wanted, cameOf(() -> checked(byAll(), ending(failing), null)), "content that fails");
+        assertEquals(wanted, cameOf(() -> checked(request(CONTENT), null, ending(failing))), "data that fail");
+        assertEquals(wanted, cameOf(() -> checked(detachedToken(), ending(failing), null)), "a TSTInfo that fails");
+        assertEquals(wanted, cameOf(() -> checked(detachedToken(), stream(tstInfo(), 7), ending(failing))),
+                "data of a detached token that fail");
+        assertEquals(wanted,
+                cameOf(() -> CmsCanon.checkStreams( detached(signer(2, "0401bb"), SHA_256), ending(failing), null, job -> CmsCanon.Verdict.GOOD, CmsCanon.LIMIT)),
+                "covered content that fails");
         byte[] covering = detached(signer(2, "0401bb"), SHA_256);
         for (byte[] data : new byte[][] {byAll(), detachedToken(), covering}) {
-            CHECKS.throwsThis("a number of octets that is too large", RuntimeException.class, () -> CmsCanon.checkStreams(
-                    data, ending((to, start, length) -> length + 1), null, job -> CmsCanon.Verdict.GOOD, CmsCanon.LIMIT));
-            CHECKS.throwsThis("a negative number of octets", RuntimeException.class, () -> CmsCanon.checkStreams(
-                    data, ending((to, start, length) -> -2), null, job -> CmsCanon.Verdict.GOOD, CmsCanon.LIMIT));
+            assertThrows(RuntimeException.class,
+                    () -> CmsCanon.checkStreams( data, ending((to, start, length) -> length + 1), null, job -> CmsCanon.Verdict.GOOD, CmsCanon.LIMIT),
+                    "a number of octets that is too large");
+            assertThrows(RuntimeException.class,
+                    () -> CmsCanon.checkStreams( data, ending((to, start, length) -> -2), null, job -> CmsCanon.Verdict.GOOD, CmsCanon.LIMIT),
+                    "a negative number of octets");
         }
     }
 
-    private static void checkStreamWithEmptyReads() throws CmsCanon.Refused, IOException {
+    @Test
+    void streamWithEmptyReads() throws CmsCanon.Refused, IOException {
         int[] asked = new int[1];
         InputStream all = new Watched(CONTENT, 1000);
         InputStream sometimes = reading((to, start, length) -> asked[0]++ % 2 == 0 ? 0 : all.read(to, start, length));
         List<CmsCanon.Finding> wanted = CmsCanon.check(byAll(), CONTENT, null, null, CmsCanon.LIMIT);
-        CHECKS.equal("empty reads", wanted, checked(byAll(), sometimes, null));
+        assertEquals(wanted, checked(byAll(), sometimes, null), "empty reads");
     }
 
-    private static void checkCallers() {
+    @Test
+    void callers() {
         byte[] data = byAll();
         for (int length = 0; length < data.length; length++) {
             byte[] cut = Arrays.copyOf(data, length);
             String wanted = cameOf(() -> CmsCanon.convert(cut));
-            CHECKS.equal("cut to " + length, wanted, cameOf(() -> checked(cut, unread(), unread())));
+            assertEquals(wanted, cameOf(() -> checked(cut, unread(), unread())), "cut to " + length);
         }
         String small = cameOf(() -> CmsCanon.checkStreams(data, unread(), unread(), null, 9));
-        CHECKS.equal("a limit that is too small", "2", small.split(" ")[0]);
+        assertEquals("2", small.split(" ")[0], "a limit that is too small");
         for (long limit : new long[] {-1, (1L << 40) + 1}) {
-            CHECKS.throwsThis("the limit " + limit, IllegalArgumentException.class,
-                    () -> CmsCanon.checkStreams(data, unread(), null, null, limit));
+            assertThrows(IllegalArgumentException.class, () -> CmsCanon.checkStreams(data, unread(), null, null, limit),
+                    "the limit " + limit);
         }
-        CHECKS.throwsThis("no message", NullPointerException.class, () -> checked(null, unread(), null));
+        assertThrows(NullPointerException.class, () -> checked(null, unread(), null), "no message");
         InputStream both = unread();
-        CHECKS.throwsThis("one stream for both", IllegalArgumentException.class, () -> checked(data, both, both));
+        assertThrows(IllegalArgumentException.class, () -> checked(data, both, both), "one stream for both");
         byte[] changed = data.clone();
         Reading changing = (to, start, length) -> {
             Arrays.fill(changed, (byte) 0);
             return -1;
         };
-        CHECKS.equal("a message that is changed", cameOf(() -> checked(data, stream(new byte[0], 1), null)),
-                cameOf(() -> checked(changed, reading(changing), null)));
+        assertEquals(cameOf(() -> checked(data, stream(new byte[0], 1), null)),
+                cameOf(() -> checked(changed, reading(changing), null)), "a message that is changed");
     }
 
     // ---- providers and a library that misbehave
@@ -411,62 +427,50 @@ public final class Streams {
         protected void engineReset() {}
     }
 
-    private static void checkProviders() {
+    @Test
+    void providers() {
         byte[] data = detached("", SHA_256);
         String usual = cameOf(() -> checked(data, stream(CONTENT, 1000), null));
         String missing = "java.lang.UnsupportedOperationException: no security provider has SHA-256";
-        CHECKS.equal("no provider of SHA-256", missing, withSha256(null, () -> checked(data, unread(), null)));
+        assertEquals(missing, withSha256(null, () -> checked(data, unread(), null)), "no provider of SHA-256");
         String wrong = "java.lang.IllegalStateException: a digest by SHA-256 has 32 octets, and that of Test version 1 has 31";
         Callable<?> check = () -> checked(data, stream(CONTENT, 1000), null);
-        CHECKS.equal("a digest that is too short", wrong, withSha256(ShortDigest.class, check));
-        CHECKS.equal("the usual provider", usual, cameOf(check));
+        assertEquals(wrong, withSha256(ShortDigest.class, check), "a digest that is too short");
+        assertEquals(usual, cameOf(check), "the usual provider");
     }
 
     private static String byDigests(byte[] data, int[] content, int[] stamped) {
         return cameOf(() -> CmsCanon.findingsByDigests(data, content, stamped, CmsCanon.LIMIT));
     }
 
-    private static void checkDigestsThatAreMissing() throws CmsCanon.Refused, IOException {
+    @Test
+    void digestsThatAreMissing() throws CmsCanon.Refused, IOException {
         int[] all = DigestsAsked.by(byAll(), CmsCanon.LIMIT).ofContent(stream(CONTENT, 1000));
         String wanted = CmsCanon.check(byAll(), CONTENT, null, null, CmsCanon.LIMIT).toString();
-        CHECKS.equal("how many digests", NAMES.size(), DigestsAsked.count(all));
-        CHECKS.equal("all digests", wanted, byDigests(byAll(), all, null));
+        assertEquals(NAMES.size(), DigestsAsked.count(all), "how many digests");
+        assertEquals(wanted, byDigests(byAll(), all, null), "all digests");
         String missing = "106 0 refused: digest not given";
         int digest = all.length / NAMES.size();
-        CHECKS.equal("the last digest missing", missing, byDigests(byAll(), Arrays.copyOf(all, all.length - digest), null));
-        CHECKS.equal("the first digest missing", missing, byDigests(byAll(), Arrays.copyOfRange(all, digest, all.length), null));
-        CHECKS.equal("no digest", missing, byDigests(byAll(), new int[0], null));
-        CHECKS.equal("no digest of the data", missing, byDigests(request(CONTENT), null, new int[0]));
-        CHECKS.equal("digests of a TSTInfo", "107 0 refused: needs the content", byDigests(detachedToken(), all, null));
+        assertEquals(missing, byDigests(byAll(), Arrays.copyOf(all, all.length - digest), null), "the last digest missing");
+        assertEquals(missing, byDigests(byAll(), Arrays.copyOfRange(all, digest, all.length), null),
+                "the first digest missing");
+        assertEquals(missing, byDigests(byAll(), new int[0], null), "no digest");
+        assertEquals(missing, byDigests(request(CONTENT), null, new int[0]), "no digest of the data");
+        assertEquals("107 0 refused: needs the content", byDigests(detachedToken(), all, null), "digests of a TSTInfo");
     }
 
-    private static void checkWrongRows() {
+    @Test
+    void wrongRows() {
         Class<? extends Throwable> wanted = IllegalStateException.class;
-        CHECKS.equal("the content itself", true, new DigestsAsked(1, 0).needsContent());
-        CHECKS.equal("no rows", false, new DigestsAsked().needsContent());
-        CHECKS.throwsThis("an algorithm that is not known", wanted, () -> new DigestsAsked(1, 8));
-        CHECKS.throwsThis("a negative algorithm", wanted, () -> new DigestsAsked(2, -1));
-        CHECKS.throwsThis("the data themselves", wanted, () -> new DigestsAsked(2, 0));
-        CHECKS.throwsThis("the content itself, and a digest", wanted, () -> new DigestsAsked(1, 0, 2, 3));
-        CHECKS.throwsThis("a digest of neither", wanted, () -> new DigestsAsked(3, 1));
+        assertTrue(new DigestsAsked(1, 0).needsContent(), "the content itself");
+        assertFalse(new DigestsAsked().needsContent(), "no rows");
+        assertThrows(wanted, () -> new DigestsAsked(1, 8), "an algorithm that is not known");
+        assertThrows(wanted, () -> new DigestsAsked(2, -1), "a negative algorithm");
+        assertThrows(wanted, () -> new DigestsAsked(2, 0), "the data themselves");
+        assertThrows(wanted, () -> new DigestsAsked(1, 0, 2, 3), "the content itself, and a digest");
+        assertThrows(wanted, () -> new DigestsAsked(3, 1), "a digest of neither");
         Outcome small = new Outcome();
         small.words[0] = 6;
-        CHECKS.throwsThis("more rows than there is room for", wanted, () -> small.refusal("", 0));
-    }
-
-    public static void main(String[] words) throws CmsCanon.Refused, IOException {
-        checkContent();
-        checkStamped();
-        checkUses();
-        checkCovered();
-        checkLimitsOfMemory();
-        checkLongContent();
-        checkStreamsThatMisbehave();
-        checkStreamWithEmptyReads();
-        checkCallers();
-        checkProviders();
-        checkDigestsThatAreMissing();
-        checkWrongRows();
-        CHECKS.end();
+        assertThrows(wanted, () -> small.refusal("", 0), "more rows than there is room for");
     }
 }

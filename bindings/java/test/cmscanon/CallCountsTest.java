@@ -1,22 +1,20 @@
 package cmscanon;
 
-import static cmscanon.Checks.DATA;
-import static cmscanon.Checks.element;
-import static cmscanon.Checks.message;
-import static cmscanon.Checks.signer;
+import static cmscanon.Samples.DATA;
+import static cmscanon.Samples.element;
+import static cmscanon.Samples.message;
+import static cmscanon.Samples.signer;
+import static org.junit.jupiter.api.Assertions.assertEquals;
 
 import com.sun.jna.NativeLibrary;
 import java.io.ByteArrayInputStream;
 import java.io.IOException;
 import java.util.stream.Collectors;
 import java.util.stream.IntStream;
+import org.junit.jupiter.api.Test;
 
-/** Checks that a verifier is handed all signers by one reading, with bindings/java/test/counting.c in front of the library. */
-public final class CallCounts {
-    private static final Checks CHECKS = new Checks();
-
-    private CallCounts() {}
-
+/** A verifier is handed all signers by one reading, with bindings/java/test/counting.c in front of the library. */
+final class CallCountsTest {
     private static long counted(String calls) {
         return (Long) NativeLibrary.getInstance("cms_canon").getFunction("counted_" + calls).invoke(Long.class, new Object[0]);
     }
@@ -36,24 +34,24 @@ public final class CallCounts {
                 job.subjectKeyIdentifier()};
             return parts[0] == null ? CmsCanon.Verdict.BAD : CmsCanon.Verdict.GOOD;
         }, CmsCanon.LIMIT);
-        CHECKS.equal("what " + signers + " signers have", 3 * signers, asked[0]);
+        assertEquals(3 * signers, asked[0], "what " + signers + " signers have");
     }
 
-    public static void main(String[] words) throws CmsCanon.Refused, IOException {
-        CHECKS.equal("no calls", "0 0 0", counts());
+    @Test
+    void countsOfCalls() throws CmsCanon.Refused, IOException {
+        assertEquals("0 0 0", counts(), "no calls");
         askForAll(1);
-        CHECKS.equal("one signer", "1 1 0", counts());
+        assertEquals("1 1 0", counts(), "one signer");
         askForAll(4000);
-        CHECKS.equal("many signers", "2 2 0", counts());
+        assertEquals("2 2 0", counts(), "many signers");
         CmsCanon.check(message(DATA, "3100"));
-        CHECKS.equal("no verifier", "3 2 0", counts());
+        assertEquals("3 2 0", counts(), "no verifier");
         CmsCanon.cover(message(DATA, element("31", signer(1, "0401aa"))), 0, new byte[1]);
-        CHECKS.equal("a cover", "3 2 1", counts());
+        assertEquals("3 2 1", counts(), "a cover");
         byte[] detached = message(DATA, element("31", signer(1, "0401aa")));
         CmsCanon.checkStreams(detached, new ByteArrayInputStream(new byte[1]), null, null, CmsCanon.LIMIT);
-        CHECKS.equal("streams", "3 2 1", counts());
+        assertEquals("3 2 1", counts(), "streams");
         CmsCanon.checkStreams(detached, new ByteArrayInputStream(new byte[1]), null, job -> CmsCanon.Verdict.GOOD, CmsCanon.LIMIT);
-        CHECKS.equal("streams and a verifier", "3 3 1", counts());
-        CHECKS.end();
+        assertEquals("3 3 1", counts(), "streams and a verifier");
     }
 }

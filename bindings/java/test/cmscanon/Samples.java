@@ -4,38 +4,15 @@ import java.io.ByteArrayOutputStream;
 import java.util.HexFormat;
 import java.util.concurrent.Callable;
 
-/** Counts checks, prints a line for each that fails, and makes messages for them. */
-final class Checks {
+/** Messages for tests, and what calls return or throw as texts. */
+final class Samples {
     /** The octets before the signers of a message whose lengths are indefinite, and those after them. */
     private static final String HEAD = "308006092a864886f70d010702a080308002010331003080";
     private static final String TAIL = "000000000000";
 
     static final String DATA = "06092a864886f70d010701";
 
-    private int passed;
-    private int failed;
-
-    void equal(String what, Object wanted, Object came) {
-        boolean holds = wanted.equals(came);
-        passed += holds ? 1 : 0;
-        failed += holds ? 0 : 1;
-        if (!holds) {
-            System.out.println("FAILED " + what + ": wanted " + wanted + ", came " + came);
-        }
-    }
-
-    /** That a call throws this, or an exception or error below it. */
-    void throwsThis(String what, Class<? extends Throwable> wanted, Callable<?> call) {
-        equal(what, wanted.getSimpleName(), thrownBy(call, wanted));
-    }
-
-    private static String thrownBy(Callable<?> call, Class<? extends Throwable> wanted) {
-        try {
-            return "nothing, and returned " + call.call();
-        } catch (Throwable thrown) {
-            return wanted.isInstance(thrown) ? wanted.getSimpleName() : thrown.toString();
-        }
-    }
+    private Samples() {}
 
     /** What a call returns, or what it throws, as a text. */
     static String cameOf(Callable<?> call) {
@@ -46,12 +23,6 @@ final class Checks {
         } catch (Exception thrown) {
             return thrown.toString();
         }
-    }
-
-    /** Prints the counts, and ends the program. */
-    void end() {
-        System.out.println(passed + " passed, " + failed + " failed");
-        System.exit(failed == 0 && passed > 0 ? 0 : 1);
     }
 
     static byte[] octets(String digits) {
