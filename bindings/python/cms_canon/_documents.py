@@ -88,7 +88,7 @@ def _pieces_read(read: Callable[[int], bytes]) -> Iterator[memoryview]:
 
 
 def _piece_of(octets: Octets) -> memoryview:
-    """Returns a view of the octets, or of a copy if they could change, or do not lie one after another."""
+    """Returns a view of the octets, or of a copy if they could change, or are not one after another."""
     view = memoryview(octets)
     return view if type(view.obj) is bytes and view.c_contiguous else memoryview(bytes(view))
 

@@ -1,4 +1,4 @@
-"""What is in a message, as immutable objects. A call of the library says where all fields lie; each is taken from there when it is
+"""What is in a message, as immutable objects. A call of the library says where all fields are; each is taken from there when it is
 asked for.
 
 Objects are equal if they are the same field of the same octets; named tuples, which hold what is small, are equal by their values.
@@ -510,7 +510,7 @@ class SignedData(Part):
 
     @cached_property
     def content(self) -> Optional[memoryview]:
-        """eContent, where it lies in what was read, or a copy if it came in several segments; None if it is detached."""
+        """eContent, a part of what was read, or a copy if it came in several segments; None if it is detached."""
         return self._if(self._content_view, kinds.CONTENT)
 
     @cached_property

@@ -1,4 +1,4 @@
-"""Where the fields of a message lie, as a call of the library says, and how they are taken from there.
+"""Where the fields of a message are, as a call of the library says, and how they are taken from there.
 
 The first call has room for at most 65,536 rows, and a second one, if there are more, for all: a message that is mostly content or
 certificates has few.
@@ -20,7 +20,7 @@ _SHORT_OID = 32  # octets: the texts of these are kept
 
 
 class Rows:
-    """Where fields lie in some octets, by the rows of a call, which have numbers from 0."""
+    """Where fields are in some octets, by the rows of a call, which have numbers from 0."""
 
     def __init__(self, octets: bytes, rows: bytes) -> None:
         self.octets = octets
@@ -88,7 +88,7 @@ class OctetString:
 
     @property
     def view(self) -> memoryview:
-        """The octets where they lie, or in a copy if there are several segments."""
+        """The octets in the input, or in a copy if there are several segments."""
         if len(self._numbers) > 1:
             return memoryview(self.octets)
         (view,) = self._rows.views_of(self._numbers)

@@ -7,7 +7,7 @@ use crate::digests::Digest;
 use crate::error::{Error, Refused, Which};
 use crate::Many;
 
-/// Where a field lies in the input: `struct cms_canon_row`.
+/// Where a field is in the input: `struct cms_canon_row`.
 #[repr(C)]
 #[derive(Clone, Copy, Debug)]
 pub(crate) struct Row {

@@ -17,7 +17,7 @@ pub struct SignedData<'a> {
     pub digest_algorithms: Vec<AlgorithmIdentifier<'a>>,
     /// eContentType, as `1.2.840.113549.1.7.1`; written as [`AlgorithmIdentifier::oid`].
     pub content_type: Oid<'a>,
-    /// eContent, where it lies in what was read, or a copy if it came in several segments; none if it is detached.
+    /// eContent, a part of what was read, or a copy if it came in several segments; none if it is detached.
     pub content: Option<Cow<'a, [u8]>>,
     /// The certificates in the order read, each one element: a Certificate (RFC 5280) if it begins with 30; none if the field is
     /// absent, which is not the same as an empty one.

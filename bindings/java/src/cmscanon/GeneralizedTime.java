@@ -31,7 +31,7 @@ public record GeneralizedTime(String text) {
         return text.charAt(SECONDS_END) == '.' ? text.substring(SECONDS_END + 1, text.length() - 1) : "";
     }
 
-    /** {@return whether {@link #toInstant} is this time, and not the nanosecond in which it lies} */
+    /** {@return whether {@link #toInstant} is this time, and not the nanosecond that it is in} */
     public boolean isWholeNanoseconds() {
         return fraction().length() <= NANOSECONDS;
     }

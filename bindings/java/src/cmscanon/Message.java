@@ -7,7 +7,7 @@ import java.util.Objects;
 /**
  * A message that is accepted, by one reading of it: {@link CmsCanon#read(byte[])}.
  *
- * <p>Nothing of it can be changed. It keeps a copy of the input, in which its {@link Octets} lie. The fields of its SignedData are
+ * <p>Nothing of it can be changed. It keeps a copy of the input, of which its {@link Octets} are parts. The fields of its SignedData are
  * its own too. If there is no SignedData, they are null, and the lists digestAlgorithms and signers are empty.
  *
  * @param kind what the message is

@@ -8,7 +8,7 @@ import java.util.HexFormat;
 /**
  * Octets that nobody can change, such as those of a field of a message. Two are equal if they have the same octets.
  *
- * <p>Those of a {@link Message} lie in the copy of the input that it keeps, and have no copy of their own. Only an OCTET STRING
+ * <p>Those of a {@link Message} are a part of the copy of the input that it keeps, and have no copy of their own. Only an OCTET STRING
  * that was received in several segments is put together.
  */
 public final class Octets {

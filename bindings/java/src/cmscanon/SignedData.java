@@ -11,7 +11,7 @@ import java.util.Objects;
  * @param version any INTEGER, as received. Whether it fits the rest is a finding of {@code check}, F1
  * @param digestAlgorithms digestAlgorithms in the order read
  * @param contentType eContentType, as {@code 1.2.840.113549.1.7.1}; written as {@link AlgorithmIdentifier#oid}
- * @param content eContent, where it lies in what was read, or a copy if it came in several segments; null if it is detached
+ * @param content eContent, a part of what was read, or a copy if it came in several segments; null if it is detached
  * @param certificates the certificates in the order read, each one element: a Certificate (RFC 5280) if it begins with 30; null if
  *     the field is absent, which is not the same as an empty one
  * @param crls the revocation information in the order read, each one element: a CertificateList (RFC 5280) if it begins with 30;
