@@ -5,6 +5,7 @@
  *     convert LIMIT INPUT                         octets are in hexadecimal
  *     many LIMIT INPUT
  *     read LIMIT INPUT                            how many octets the messages have that `many` converts
+ *     extent LIMIT INPUT                          how far the first element reaches, asked for at each octet that comes
  *     cover LIMIT INPUT PATH CONTENT              PATH is numbers joined by commas, as 0,1; CONTENT is - if none is given
  *     part LIMIT INPUT PATH PART
  *     show LIMIT INPUT
@@ -145,6 +146,17 @@ static void answer_octets(const struct request *it, written *call)
 
 /* ---- the other calls */
 
+/* Prints the reach, how many octets had come when it was first not CMS_CANON_MORE, and the end. */
+static void answer_extent(const struct request *it)
+{
+    struct cms_canon_extent extent = {0};
+    size_t came = 0;
+    cms_canon_extent(it->input.at, came, it->limit, &extent);
+    while (extent.reach == CMS_CANON_MORE && came < it->input.length)
+        cms_canon_extent(it->input.at, ++came, it->limit, &extent);
+    printf("%" PRIu32 " %zu %" PRIu64, extent.reach, came, extent.end);
+}
+
 static void answer_many(const struct request *it, bool read)
 {
     size_t room = it->input.length + 64;
@@ -260,6 +272,8 @@ static void *answer(void *request)
     for (size_t i = 0; i < sizeof calls / sizeof calls[0]; i++)
         if (strcmp(it->call, calls[i].name) == 0)
             answer_octets(it, calls[i].call);
+    if (strcmp(it->call, "extent") == 0)
+        answer_extent(it);
     if (strcmp(it->call, "many") == 0 || strcmp(it->call, "read") == 0)
         answer_many(it, strcmp(it->call, "read") == 0);
     if (strcmp(it->call, "same") == 0)
