@@ -2,14 +2,14 @@
 use Rattle.std.proofs.Common.{◌≡◌, ◌≢◌, ◌⊎◌, inl, inr, ℕ, zero, suc, ◌+◌, ◌-◌, ◌<◌, ◌≤◌, List, [], ◌∷◌, ◌++◌, length, take, drop, replicate, Option, Some, None, true, false, refl, sym, ◌∙◌, ap, subst, arith, append_assoc, length-append}
 use Rattle.std.proofs.lemmas.List.{append-nil, length-replicate, length-take-le, take-append-drop}
 use Rattle.std.proofs.Math.Seq.{drop-append_seam}
-use Rattle.std.specs.Io.KnownBytes.{Consumes, IsAtEnd}
+use Rattle.std.specs.Io.KnownBytes.{Consumes}
 use Rattle.cms_tlv.specs.declared.bound.Bound.{Bound}
 use Rattle.cms_tlv.specs.declared.bound.Header.{Header}
 use Rattle.cms_tlv.specs.declared.fault.Fault.{Fault}
 use Rattle.cms_tlv.specs.declared.fault.Fault.TheVariants as faults
 use Rattle.cms_tlv.specs.declared.fault.Reason.TheVariants as reasons
 use Rattle.cms_tlv.specs.Clauses.{Ends, Faults, Found, IsCut, OctetsTaken, Refuses, SpellsHeader, frame_by}
-use Rattle.cms_tlv.specs.Headers.{IsConstructed, IsIdentifier, low, high, IsLength, short, long}
+use Rattle.cms_tlv.specs.Headers.{IsConstructed, IsIdentifier, low, high, IsLength}
 use Rattle.cms_tlv.specs.Frames.{Frame, Frames, definite, indefinite, none, more, IsEnd}
 use Rattle.cms_tlv.specs.State.{State}
 use Rattle.cms_c.specs.Extents.{BeginsNoFrame, HasFrame, IsOpenedAt, IsOpened, IsPartOf, IsReachBy, IsReached, BeginsNeither, Reaches, into}
@@ -108,11 +108,12 @@ nothing_begins octets limit new h x f y room e is =
     let (rest, l, p) = taken_rest octets limit new h.octets h.taken in
     h.hopeless (rest ++ x) f y tt (tt, omega (arith, room)) (sym (append_assoc h.octets rest x) ∙ ap (λ t. t ++ x) (sym p) ∙ e) is
 
-pub octets_missing : (octets : List ℕ) (limit : ℕ) (new : State) → Ends top (start octets limit) new → IsCut octets
+pub octets_missing : (octets : List ℕ) (limit : ℕ) (new : State) → Ends top (start octets limit) new → IsCut octets × (length octets < limit)
 octets_missing octets limit new h =
     let (rest, l, p) = taken_rest octets limit new h.octets h.taken in
     let n : rest ≡ [] = rw l at h.at_end in
-    subst IsCut (sym (p ∙ ap (λ t. h.octets ++ t) n ∙ append-nil h.octets)) h.cut
+    let all : octets ≡ h.octets = p ∙ ap (λ t. h.octets ++ t) n ∙ append-nil h.octets in
+    (subst IsCut (sym all) h.cut, omega (arith, ap length all, h.room.1))
 
 -- why no header was read
 pub lacks : (octets : List ℕ) (limit : ℕ) (new : State) (f : Fault) (reach : Reach) → Faults (frame_by false) top (start octets limit) new f
@@ -137,6 +138,7 @@ module _ (octets : List ℕ) (limit : ℕ) (new : State) (header : Header) (n : 
     pub count : length new.done ≡ length identifier + length sizes
     pub is_identifier : IsIdentifier header.ident identifier
     pub is_length : IsLength sizes n
+    pub fits : length new.done + n ≤ limit
 
   has_header : HasHeader
   has_header =
@@ -150,20 +152,23 @@ module _ (octets : List ℕ) (limit : ℕ) (new : State) (header : Header) (n : 
         count = ap length (found.kept ∙ s.parts) ∙ length-append s.identifier s.sizes;
         is_identifier = s.is_identifier;
         is_length = (rw is at s.says).0;
+        fits = omega (arith, (rw is at s.says).1.1, found.taken.limit);
       }
 
   -- fewer octets than the contents have
-  pub contents_missing : length octets - length new.done < n → IsCut octets
+  pub contents_missing : length octets - length new.done < n → IsCut octets × (length octets < limit)
   contents_missing less =
       let h = has_header in
       let l = ap length h.parts ∙ length-append h.identifier (h.sizes ++ h.rest) ∙ ap (λ m. length h.identifier + m) (length-append h.sizes h.rest) in
       let x = replicate (n - length h.rest) 0 in
       let k : n ≡ length (h.rest ++ x) = omega (arith, less, l, h.count, length-append h.rest x, length-replicate {A = ℕ} (n - length h.rest) 0) in
-      let f = definite (h.rest ++ x) h.is_identifier (subst (IsLength h.sizes) k h.is_length) in (
+      let f = definite (h.rest ++ x) h.is_identifier (subst (IsLength h.sizes) k h.is_length) in
+      let cut : IsCut octets = (
         x,
         (λ e. let z = ap length e in omega (arith, less, l, h.count, z, length-replicate {A = ℕ} (n - length h.rest) 0)),
         subst Frame (sym (ap (λ t. t ++ x) h.parts ∙ assoc_header h.identifier h.sizes h.rest x)) f,
-      )
+      ) in
+      (cut, omega (arith, less, h.fits, l, h.count))
 
   -- all of the contents
   pub element_whole : n ≤ length octets - length new.done → HasFrame octets (length new.done + n)
@@ -183,7 +188,7 @@ module _ (octets : List ℕ) (limit : ℕ) (new : State) (header : Header) (n : 
 
 module _ (octets : List ℕ) (limit : ℕ) (bd : Bound) (old new : State) (header : Header) (n : ℕ) (e : bd ≡ top) (s : old ≡ start octets limit)
     (found : Found (SpellsHeader bd new.limit (length new.done)) old new header) (is : header.len ≡ Some n) where
-  pub contents_missing_of : length octets - length new.done < n → IsCut octets
+  pub contents_missing_of : length octets - length new.done < n → IsCut octets × (length octets < limit)
   contents_missing_of = contents_missing octets limit new header n (rw (e, s) at found) is
 
   pub element_whole_of : n ≤ length octets - length new.done → HasFrame octets (length new.done + n)
@@ -209,7 +214,8 @@ module _ (octets left : List ℕ) (end n : ℕ) (at : left ≡ drop end octets) 
   pub stops : (limit : ℕ) (reach : Reach) → (0 < n → IsEnd left → ⊥) → BeginsNeither left (limit - end) reach
       → IsOpenedAt octets end n → Reaches octets limit end n reach
   stops limit reaches.More k h b = (
-    rw b.parts (cut_inside n b.rest b.opened (rw (rest_of octets left end n at b) at k) (rw (rest_of octets left end n at b) at h)),
+    rw b.parts (cut_inside n b.rest b.opened (rw (rest_of octets left end n at b) at k) (rw (rest_of octets left end n at b) at h.0)),
+    omega (arith, h.1, ap length (rest_of octets left end n at b), ap length b.parts, length-append b.passed b.rest, b.count),
     b,
   )
   stops limit reaches.Whole k h b = absurd h

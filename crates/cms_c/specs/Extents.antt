@@ -1,5 +1,5 @@
 -- How far a message reaches whose octets come in pieces.
-use Rattle.std.specs.Prelude.{◌≡◌, ◌≢◌, ◌⊎◌, ◌≤◌, ◌-◌, ℕ, suc, List, [], ◌∷◌, ◌++◌, length}
+use Rattle.std.specs.Prelude.{◌≡◌, ◌≢◌, ◌⊎◌, ◌≤◌, ◌<◌, ◌-◌, ℕ, suc, List, [], ◌∷◌, ◌++◌, length}
 use Rattle.cms_tlv.specs.declared.fault.Fault.{Fault}
 use Rattle.cms_tlv.specs.declared.fault.Fault.TheVariants as faults
 use Rattle.cms_tlv.specs.declared.fault.Reason.{Reason}
@@ -47,12 +47,13 @@ pub record HasNoFrame (octets : List ℕ) (limit end n : ℕ) : Type 0 where
   pub nothing : BeginsNoFrame (limit - end) begun.rest
 
 --- `Reaches octets limit end n reach`: `More`: the octets are a proper prefix of a frame (`IsCut`),
----   and the first `end` are `IsOpened n`
+---   fewer than the limit, and the first `end` are `IsOpened n`
 --- | `Whole`: the first `end` octets are a frame
 --- | `Nothing`: no frame begins after `end` octets (`HasNoFrame`)
 --- | `Unknown`: memory ran out after `end` octets
 abbrev pub Reaches : List ℕ → ℕ → ℕ → ℕ → Reach → Type 0
-Reaches octets limit end n reaches.More = IsCut octets × IsOpenedAt octets end n
+Reaches octets limit end n reaches.More =
+    IsCut octets × (length octets < limit) × IsOpenedAt octets end n
 Reaches octets limit end n reaches.Whole = HasFrame octets end
 Reaches octets limit end n reaches.Nothing = HasNoFrame octets limit end n
 Reaches octets limit end n reaches.Unknown = IsOpenedAt octets end n
@@ -84,7 +85,7 @@ IsPartOf octets (parts.Element n) = HasFrame octets n
 
 -- why they begin with neither
 abbrev pub BeginsNeither : List ℕ → ℕ → Reach → Type 0
-BeginsNeither octets limit reaches.More = IsCut octets
+BeginsNeither octets limit reaches.More = IsCut octets × (length octets < limit)
 BeginsNeither octets limit reaches.Whole = ⊥
 BeginsNeither octets limit reaches.Nothing = BeginsNoFrame limit octets
 BeginsNeither octets limit reaches.Unknown = Unit {0}

@@ -1,6 +1,6 @@
-use Rattle.std.proofs.Common.{arith, refl, sym, ap, ◌∙◌}
+use Rattle.std.proofs.Common.{refl}
 use Rattle.cms_c.specs.declared.extent.Reach.TheVariants as reaches
-use Rattle.cms_c.proofs.Extents.{begun_count, still_begun, all_reached}
+use Rattle.cms_c.proofs.Extents.{begun_count, still_begun}
 use Rattle.cms_c.proofs.extent.extended.Goals as goal
 
 pub returns-then-not-is_within : goal.returns-then-not-is_within

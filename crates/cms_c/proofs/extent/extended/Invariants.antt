@@ -1,4 +1,4 @@
-use Rattle.std.proofs.Common.{◌≡◌, ◌≤◌, ◌-◌, length}
+use Rattle.std.proofs.Common.{◌≤◌, ◌-◌, length}
 use Rattle.cms_c.specs.Extents.{IsOpenedAt, IsReached}
 use Rattle.cms_c.proofs.extent.extended.Given as goal
 

@@ -1,4 +1,4 @@
-use Rattle.std.proofs.Common.{arith, refl, sym, ap, ◌∙◌, inl, length}
+use Rattle.std.proofs.Common.{arith, ap, inl, length}
 use Rattle.std.proofs.lemmas.List.{length-drop}
 use Rattle.cms_c.proofs.Extents.{past_last, past_header, past_element, stops, element_count}
 use Rattle.cms_c.proofs.extent.next.Goals as goal

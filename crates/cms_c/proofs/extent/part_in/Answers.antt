@@ -1,4 +1,4 @@
-use Rattle.std.proofs.Common.{arith, refl, sym, ap, ◌∙◌}
+use Rattle.std.proofs.Common.{arith, ap, ◌∙◌}
 use Rattle.cms_c.proofs.Extents.{lacks_of, contents_missing_of, element_whole_of, start}
 use Rattle.cms_c.proofs.extent.part_in.Goals as goal
 
