@@ -1,51 +1,63 @@
-#!/usr/bin/env python3
 """Has `cms_canon_archive` find the messages in containers that Debian's tools make, and compares what it says with what was made.
 
-    /usr/bin/python3 archive/tests/containers.py [SPOILT [SEED]]
-
-There are one and more of each kind of container: as they are, with a changed content, cut, and spoilt at random, so many of them
-(3,000 if no number is named). No file may be said to fit whose content was changed. Hostile files may take no more octets than the
-budget of a file, and twice as many of them no more than twice the octets. The tools are openssl, jarsigner, apksigner, osslsigncode and
-gpg; pikepdf makes encrypted PDFs and gives a second opinion. What is missing is skipped by its name.
+There are one and more of each kind of container: as they are, with a changed content, cut, and spoilt at random. No file may be said to
+fit whose content was changed. Hostile files may take no more octets than the budget of a file, and twice as many of them no more than
+twice the octets. What is missing of the tools that make containers is skipped by its name; pikepdf gives a second opinion.
 """
 
-import base64
-import bz2
 import gzip
 import hashlib
-import importlib
 import io
 import itertools
-import lzma
-import mailbox
 import os
 import re
-import struct
-import subprocess
 import sys
 import tarfile
 import time
 import tomllib
 import tracemalloc
-import warnings
-import zipfile
 from collections import Counter
-from contextlib import closing
 from pathlib import Path
 from random import Random
-from typing import Dict, Iterator, NamedTuple, Tuple
+from typing import Dict, Iterator, Tuple
 from unittest import mock
 
-from archive import SECONDS, count, count_if, count_same, judged_in_a_copy, modules_of, tally, tarred, write_files, zipped
-from places import ARCHIVE
-from elements import element, element_at
+import cases as made
+import pytest
+from cases import (
+    ARCHIVE_TIME_STAMP, CERTIFICATE_IN_DER, COUNTERSIGNATURE, DIFFERS, DOCUMENT, FITS, INSIDE, NO_DIGEST, SIGNER_INFO, SIGNER_INFOS, TEXT, TIME_STAMP,
+    TST_INFO, UNSEEN, Case, appended, hostile, last_of, place_of, said_in, said_of, signed_pdf, wanted_of, with_unsigned, write,
+)
+from counting import count_if, count_same, needs
+from elements import element
+from making import tarred, zipped
+from places import DATA
+from tally import count
 
+pytestmark = [pytest.mark.archive, needs("cryptography", tools=["openssl"])]
 SEED = 5083
 SPOILT = 3000
 HEADERS = 20_000  # of tars, that are changed
+KINDS = {  # what makes containers, and the programs and packages that it uses
+    "files_of_their_own": (), "other_files": ("osslsigncode", "gpg"), "mails": (), "other_mails": (), "other_zips": (), "pdfs": ("pikepdf",),
+    "early_pdfs": (), "containers": (), "made_jars": (), "jars": ("jarsigner", "apksigner"), "packed": ("zstandard",), "long_members": (), "cut_tars": (),
+}
+PACKAGES = ("pikepdf", "zstandard")
 
 
-def judge_attributes(archive, folder: Path, make) -> None:
+@pytest.fixture(scope="module")
+def kinds(make):
+    """Containers by their kinds and names."""
+    return {kind: getattr(made, kind)(make) for kind in KINDS}
+
+
+@pytest.fixture(scope="module")
+def cases(kinds):
+    """Containers of all kinds by their names."""
+    return {name: case for some in kinds.values() for name, case in some.items()}
+
+
+def test_attributes(archive, home, make):
     """Tokens and countersignatures in unsigned attributes are read, and an imprint is compared with the signature that it covers."""
     der = make.cms(DOCUMENT, "-nodetach")
     signature = archive.cms_canon.read(der).signers[0].signature
@@ -56,18 +68,17 @@ def judge_attributes(archive, folder: Path, make) -> None:
         ("two tokens", {TIME_STAMP: right, ARCHIVE_TIME_STAMP: wrong}, [("covers more than was compared", "1.2.3.4"), ("fits", "1.2.3.4")]),
         ("no token", {TIME_STAMP: element(0x30, b"")}, [("no digest to compare", None)]),
     ):
-        came, facts = said_in(archive, folder, "token.p7m", with_unsigned(der, attributes))
+        came, facts = said_in(archive, home, "token.p7m", with_unsigned(der, attributes))
         numbers, times = [it.number for it in facts[""].times], sorted((it.state.value, it.policy) for it in facts[""].times)
         count_same(name, (came, numbers, times), ({"": FITS}, [f"0/{it}" for it in range(len(wanted))], wanted))
     countersigner = last_of(make.cms(signature), SIGNER_INFO)
-    _, facts = said_in(archive, folder, "counter.p7m", with_unsigned(der, {COUNTERSIGNATURE: countersigner}))
+    _, facts = said_in(archive, home, "counter.p7m", with_unsigned(der, {COUNTERSIGNATURE: countersigner}))
     came = [(it.number, it.subject, it.digest) for it in facts[""].signers]
     count_same("a countersignature", came, [("0", "CN=Signer", "sha256"), ("0.0", "CN=Signer", "sha256")])
     # Of several signers the one of which least is known decides, and one that does not fit before all.
     without, other = (last_of(make.cms(octets, *words), SIGNER_INFO) for octets, words in ((DOCUMENT, ["-noattr"]), (TEXT, [])))
-    cases = ("none", b"", FITS), ("no digest", without, NO_DIGEST), ("another", other, DIFFERS), ("both", without + other, DIFFERS)
-    for name, more, wanted in cases:
-        came, facts = said_in(archive, folder, "signers.p7m", appended(der, SIGNER_INFOS, more))
+    for name, more, wanted in (("none", b"", FITS), ("no digest", without, NO_DIGEST), ("another", other, DIFFERS), ("both", without + other, DIFFERS)):
+        came, facts = said_in(archive, home, "signers.p7m", appended(der, SIGNER_INFOS, more))
         count_if(f"several signers, {name}", came[""] == wanted, came, facts[""].findings)
     # What certificates say is kept, but not of long ones, which would fill the memory.
     judging, certificate = archive.judging, make.run(CERTIFICATE_IN_DER)
@@ -77,7 +88,7 @@ def judge_attributes(archive, folder: Path, make) -> None:
     count_same("certificates that are kept", (subjects, kept, found), ({"CN=Signer"}, 1, None))
 
 
-def judge_limits(archive, folder: Path) -> None:
+def test_limits(archive, home):
     """What has more than is read is left, and its row says so; what it lies in is read on. A file that only a missing package could read is not
     called damaged."""
     many = tarred({"many.zip": zipped({f"{it}": b"" for it in range(9)}), "text.txt": TEXT})
@@ -95,14 +106,17 @@ def judge_limits(archive, folder: Path) -> None:
         ("a tar of too many members", members, mock.patch.multiple(sources, MOST_MEMBERS=10, OCTETS_OF_A_MEMBER=1 << 30), large, "", "", 11),
     ):
         with limit:
-            came, facts = said_in(archive, folder, name, octets)
+            came, facts = said_in(archive, home, name, octets)
         is_so = wanted.items() <= came.items() and note in facts[place].note and places in (None, len(came))
         count_if(name, is_so, came, facts.get(place), "wanted", wanted, note, places)
 
 
-def judge_cases(archive, folder: Path, cases: Dict[str, Case]) -> None:
-    for name, case in cases.items():
-        came, facts = said_of(archive, write(folder, name, case))
+@pytest.mark.parametrize("kind, used", KINDS.items(), ids=KINDS)
+def test_cases(archive, home, kinds, tally, kind, used):
+    for it in used:
+        tally.has_package(it) if it in PACKAGES else tally.has(it)
+    for name, case in kinds[kind].items():
+        came, facts = said_of(archive, write(home, name, case))
         # The place of a signature in an attached PDF is not known when it is made.
         came = {re.sub(r"(part 1!signature at) \d+", r"\1 0", where): what for where, what in came.items()}
         wanted = wanted_of(case)
@@ -124,59 +138,57 @@ def changed_contents(cases: Dict[str, Case]):
             yield name, case._replace(octets=case.octets[::-1].replace(b"gniliart", b"gnilairt", 1)[::-1]), places
 
 
-def judge_changed(archive, folder: Path, cases: Dict[str, Case]) -> None:
+def test_changed(archive, home, cases):
     """A content that was changed is found by F7 or F14, and not said to fit."""
-    kinds = Counter()
+    found = Counter()
     for name, case, places in changed_contents(cases):
-        came, facts = said_of(archive, write(folder, name, case))
+        came, facts = said_of(archive, write(home, name, case))
         for where in (it for it in places if case.states[it] not in (INSIDE, NO_DIGEST)):
             is_found = came.get(where) == DIFFERS and (re.search(r"F7|F14", facts[where].findings) or "sha1" in name or "equal" in name)
             count_if(f"{name}, changed", is_found or came.get(where) == INSIDE and "equal" in name, where, came)
-            kinds[Path(name).suffix] += 1
-    count_if("changed contents of each kind", all(kinds[it] for it in (".p7s", ".tst", ".tsr", ".pdf", ".eml", ".mbox")), kinds)
+            found[Path(name).suffix] += 1
+    count_if("changed contents of each kind", all(found[it] for it in (".p7s", ".tst", ".tsr", ".pdf", ".eml", ".mbox")), found)
 
 
-def judge_cut(archive, folder: Path, cases: Dict[str, Case], random: Random) -> None:
+def test_cut(archive, home, cases):
     """A file that is cut never ends the search, has one row of its own, and what is said to fit fitted before."""
-    wrong = []
-    for name, case in cases.items():
-        known = {it.digest for it in said_of(archive, write(folder, name, case))[1].values()}
+    random, wrong = Random(SEED), []
+    for name, case in ((name, case) for name, case in cases.items() if len(case.octets) < 1 << 20):
+        known = {it.digest for it in said_of(archive, write(home, name, case))[1].values()}
         for end in {0, 1, len(case.octets) // 2, len(case.octets) - 1, random.randrange(len(case.octets) or 1)}:
-            came, facts = said_of(archive, write(folder, name, case._replace(octets=case.octets[:end])))
+            came, facts = said_of(archive, write(home, name, case._replace(octets=case.octets[:end])))
             good = [it.digest for it in facts.values() if it.state in archive.found.GOOD]
             if list(facts).count("") != 1 or not set(good) <= known:
                 wrong.append(f"{name} cut at {end}: {came}")
     count("cut files", wrong[:3])
 
 
-def judge_spoilt(archive, folder: Path, cases: Dict[str, Case], random: Random, number: int) -> None:
+def test_spoilt(archive, home, cases):
     """Files with octets changed at random never end the search. An octet that a PDF signature covers may not change without being noticed."""
-    small = [(name, case) for name, case in cases.items() if 0 < len(case.octets) < 60_000]
+    random, small = Random(SEED), [(name, case) for name, case in cases.items() if 0 < len(case.octets) < 60_000]
     begin, end = re.search(rb"/Contents (<[^>]*>)", cases["one.pdf"].octets).span(1)
-    raised, unnoticed, kinds = [], [], Counter()
-    for _ in range(number):
+    raised, unnoticed, found = [], [], Counter()
+    for _ in range(SPOILT):
         name, case = random.choice(small)
         place, octets = random.randrange(len(case.octets)), bytearray(case.octets)
         octets[place] ^= random.randint(1, 255)
         for _ in range(random.choice((0, 0, 1, 20))):
             octets[random.randrange(len(octets))] = random.randrange(256)
-        path = write(folder, name, case._replace(octets=bytes(octets)))
+        path = write(home, name, case._replace(octets=bytes(octets)))
         try:
             came, _ = said_of(archive, path)
         except Exception as error:
             raised.append(f"{name}: {error!r}")
-            path.with_suffix(".raised").write_bytes(octets)
             continue
-        kinds[came.get("", "message")] += 1
+        found[came.get("", "message")] += 1
         is_covered = name == "one.pdf" and (octets[:begin], octets[end:]) != (case.octets[:begin], case.octets[end:])  # and not in the hole
         unnoticed += [f"{name} at {place}"] if is_covered and FITS in came.values() else []
-    count(f"{number:,} spoilt files", (raised or unnoticed)[:3])
-    count_if("spoilt files of several classes", len(kinds) > 4, kinds)
+    count(f"{SPOILT:,} spoilt files", (raised or unnoticed)[:3])
+    count_if("spoilt files of several classes", len(found) > 4, found)
 
 
-def judge_second_opinion(cases: Dict[str, Case]) -> None:
-    if not tally.has_package("pikepdf"):
-        return
+@needs("pikepdf")
+def test_second_opinion(cases):
     import pikepdf
 
     for name, case in cases.items():
@@ -187,7 +199,7 @@ def judge_second_opinion(cases: Dict[str, Case]) -> None:
             count_same(f"{name}, as pikepdf sees it", seen, len(case.states))
 
 
-def judge_notes(archive, folder: Path, cases: Dict[str, Case]) -> None:
+def test_notes(archive, home, cases):
     """What a state does not say is said in a note."""
     for name, place, wanted in (
         ("md5.jar", "META-INF/A.RSA", "compares by md5 alone"),
@@ -196,11 +208,11 @@ def judge_notes(archive, folder: Path, cases: Dict[str, Case]) -> None:
         ("none.asice", "META-INF/signature001.p7s", "the manifest lists no file"),
         ("after.pdf", place_of(cases["after.pdf"].octets), "something else than zeros follows"),
     ):
-        _, facts = said_of(archive, write(folder, name, cases[name]))
+        _, facts = said_of(archive, write(home, name, cases[name]))
         count_if(f"the note of {name}", wanted in facts[place].note, facts[place].note)
 
 
-def judge_boxes(archive) -> None:
+def test_boxes(archive):
     """An mbox is taken apart at the same lines in pieces of whatever length."""
     mails, random, wrong = archive.mail, Random(SEED), []
     lines = [b"From a\n", b"\n", b"\r\n", b">From b\n", b"From c", b"x\n", b"From d\r\n"]
@@ -236,10 +248,10 @@ def octets_read(archive, path: Path) -> Tuple[int, float, int]:
     return budget._most - budget._octets, time.process_time() - begin, places
 
 
-def judge_hostile(archive, folder: Path) -> None:
+def test_hostile(archive, home):
     twice = hostile(2)
     for name, octets in hostile(1).items():
-        one, two = (octets_read(archive, write(folder, name, Case(it, ""))) for it in (octets, twice[name]))
+        one, two = (octets_read(archive, write(home, name, Case(it, ""))) for it in (octets, twice[name]))
         budget = archive.sources.FREE + archive.sources.TIMES_THE_SIZE * len(octets)
         is_linear = two[0] <= 2.3 * one[0] + 100_000 or one[0] >= budget
         is_quick = two[1] <= 3 * one[1] + 0.5 and two[1] < 20
@@ -248,28 +260,31 @@ def judge_hostile(archive, folder: Path) -> None:
 
 # ---- a file system that misbehaves
 
-def judge_file_system(archive, folder: Path, make) -> None:
+def test_file_system(archive, home, make):
     """A file that has become something else is not waited for or followed, and an error of the disk is not taken for damage."""
-    fifo, link = folder / "fifo.p7s", folder / "link.p7s"
+    fifo, link = home / "fifo.p7s", home / "link.p7s"
     os.mkfifo(fifo)
-    link.symlink_to(folder / "doc.p7s")
+    link.symlink_to(home / "doc.p7s")
     for path in (fifo, link):
         count_if(f"a {path.stem}", is_raised(OSError, lambda: list(archive.files.found_in_path(str(path)))), "it was opened")
-    path = write(folder, "neighbour/doc.p7s", Case(make.cms(DOCUMENT), ""))
-    os.mkfifo(folder / "neighbour" / "doc")
+    path = write(home, "neighbour/doc.p7s", Case(make.cms(DOCUMENT), ""))
+    os.mkfifo(home / "neighbour" / "doc")
     count_same("a FIFO as the content", said_of(archive, path)[0], {"": "content not readable"})
-    # The reading of a file fails at each place in turn: no row says that the file is damaged, and none that it fits.
+
+
+def test_errors_of_the_disk(archive, home, make):
+    """The reading of a file fails at each place in turn: no row says that the file is damaged, and none that it fits."""
     members = {f"{it}.p7s": make.cms(DOCUMENT) for it in range(3)}
     files = {"disk.zip": zipped(members), "disk.tar": tarred(members), "disk.tar.gz": gzip.compress(tarred(members)), "disk.pdf": signed_pdf(make)}
     for name, octets in files.items():
-        path, readinto = write(folder, name, Case(octets, "")), archive.files._File.readinto
+        path, readinto = write(home, name, Case(octets, "")), archive.files._File.readinto
         with mock.patch.object(archive.files, "SHORT", 0):  # or these would be read at once
             with mock.patch.object(archive.files._File, "readinto", autospec=True, side_effect=readinto) as reads:
                 list(archive.files.found_in_path(str(path)))
             wrong = [at for at in range(reads.call_count) if not _ends_by_disk(archive, path, at)]
         count(f"errors of the disk, {name}, {reads.call_count} reads", wrong if reads.called else "nothing was read")
     with mock.patch.object(archive.files, "_read", side_effect=archive.files.Unreadable("Input/output error")):
-        (row,) = archive.reading.rows_of_entry(archive.walking.entry_of(f"{folder}/disk.zip"))
+        (row,) = archive.reading.rows_of_entry(archive.walking.entry_of(f"{home}/disk.zip"))
     count_same("an error of the disk, of a short file", (row["what"], row["error"]), ("unreadable", "Input/output error"))
 
 
@@ -294,7 +309,7 @@ def _ends_by_disk(archive, path: Path, at: int) -> bool:
         return is_raised(archive.files.Unreadable, lambda: list(archive.files.found_in_path(str(path))))
 
 
-def judge_large_contents(archive, cases: Dict[str, Case], make) -> None:
+def test_large_contents(archive, cases):
     """What is found piece by piece of a long content is what the library finds with it. A TSTInfo that is too long is not known to fit."""
     names = ("doc.p7s", "stamped/doc.tst", "stamped/doc.tsr", "doc.tsq", "unsigned/doc.p7s")
     for name, content in itertools.product(names, (DOCUMENT, DOCUMENT[:-1], b"")):
@@ -305,12 +320,11 @@ def judge_large_contents(archive, cases: Dict[str, Case], make) -> None:
         with mock.patch.object(archive.judging, "SMALL", 0):
             came = archive.judging._findings(octets, message, pieces, is_stamped)
         count_same(f"{name}, {len(content)} octets by pieces", came, [it for it in found if it.code not in (17, 18)])
-    judge_contents_beside(archive, make)
 
 
-def judge_contents_beside(archive, make) -> None:
+def test_contents_beside(archive, make):
     """What cannot be compared with a long document, as a digest that `hashlib` does not make, is not said to fit, and stops nothing."""
-    long, new, responses = bytes(1 << 20), hashlib.new, tomllib.loads((ARCHIVE / "tests" / "data" / "responses.toml").read_text())
+    long, new, responses = bytes(1 << 20), hashlib.new, tomllib.loads((DATA / "responses.toml").read_text())
     token, truncated = make.cms(DOCUMENT, "-econtent_type", TST_INFO), make.cms(long, "-md", "sha512-256")
 
     def lacking(name, *more, **others):
@@ -353,10 +367,10 @@ def headers_of_tars(random: Random) -> Iterator[bytes]:
         yield bytes(header) if random.random() < 0.98 else bytes(header[: random.randrange(512)])
 
 
-def judge_headers(archive, random: Random) -> None:
+def test_headers(archive):
     """A header of a tar that is read in less time says what `tarfile` reads in it."""
     plain, wrong = 0, []
-    for header in headers_of_tars(random):
+    for header in headers_of_tars(Random(SEED)):
         plain += archive.packed._PLAIN_HEADER.match(header) is not None
         own, other = (_said_of_header(it, header) for it in (archive.packed._Header, tarfile.TarInfo))
         wrong += [(own, other)] if own != other else []
@@ -369,31 +383,3 @@ def _said_of_header(kind, header: bytes):
     except (tarfile.HeaderError, ValueError) as error:
         return type(error).__name__, str(error)
     return member.name, member.size, member.type, member.chksum, member.isfile(), member.isdir(), member.issparse()
-
-
-def judge_copy(home: Path) -> None:
-    inner = (f"containers.{it}" for it in ("files", "found", "mail", "packed", "sources", "zips"))
-    archive = modules_of(home, "judging", "reading", "walking", *inner)
-    given = [int(it) for it in sys.argv[1:3]]
-    spoilt, seed = [*given, *[SPOILT, SEED][len(given) :]]
-    random, folder, make, cases = Random(seed), home / "files", Maker(home / "made"), {}
-    for some in (files_of_their_own, other_files, mails, other_mails, other_zips, pdfs, early_pdfs, containers, made_jars, jars, packed, long_members, cut_tars):
-        cases.update(some(make))
-    judge_cases(archive, folder / "whole", cases)
-    judge_second_opinion(cases)
-    judge_large_contents(archive, cases, make)
-    judge_notes(archive, folder / "whole", cases)
-    judge_changed(archive, folder / "changed", cases)
-    judge_cut(archive, folder / "cut", {name: case for name, case in cases.items() if len(case.octets) < 1 << 20}, random)
-    judge_spoilt(archive, folder / "spoilt", cases, random, spoilt)
-    judge_headers(archive, random)
-    judge_boxes(archive)
-    judge_hostile(archive, folder / "hostile")
-    judge_limits(archive, folder / "limits")
-    judge_attributes(archive, folder / "attributes", make)
-    (folder / "system").mkdir()
-    judge_file_system(archive, folder / "system", make)
-
-
-if __name__ == "__main__":
-    sys.exit(judged_in_a_copy(("cryptography",), judge_copy) if tally.has("openssl") else tally.end(may_skip_all=True))
