@@ -29,7 +29,7 @@ from commands import (
     AS_NOBODY, SECONDS, SETTLED, asked, begun, command, command_says, ended, environment_of, faulty_processes, lines_of, ran, rows_in, store_of,
     wait_until, words_of,
 )
-from counting import count_if, count_same, is_line, needs, needs_server
+from counting import count_if, count_same, is_line, needs, needs_cluster, needs_server
 from elements import element, message as message_of
 from making import COMPRESSIONS, Made, grouped, message_at_random, message_of_its_own, packed_by, write_files
 from places import RELEASE
@@ -386,8 +386,7 @@ def test_line_of_parallel(home, folder, files):
     judge_line_of_parallel(home, folder, files, f"sqlite:///{home}/parallel.db", "SQLite")
 
 
-@needs_server
-@needs(tools=["parallel"])
+@needs(tools=["parallel"], server=True)
 def test_work_by_parallel(home, folder, files, server):
     """That line begins `work` for a store in PostgreSQL, on this machine as both of its hosts."""
     judge_line_of_parallel(home, folder, files, server.make_database("parallel"), "PostgreSQL")
@@ -404,8 +403,7 @@ def judge_line_of_parallel(home, folder, files, url, kind):
     count(f"the line for GNU parallel, {kind}", f"{done.returncode} {done.stderr[-500:]}" if done.returncode else differs_from(files, store_of(url)))
 
 
-@needs_server
-@needs("distributed")
+@needs_cluster
 def test_cluster(home, folder, files, server):
     """The workers of a cluster work, of which one is killed in the middle."""
     url = server.make_database("cluster")

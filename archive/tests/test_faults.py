@@ -30,7 +30,7 @@ import pytest
 from commands import (
     DEADLINE, SETTLED, asked, begun, command, command_says, ended, environment_of, faulty_processes, put_in, ran, rows_in, wait_until,
 )
-from counting import count_if, count_same, is_line, needs, needs_server, other_than
+from counting import count_if, count_same, is_line, needs, needs_cluster, needs_server, other_than
 from making import message_at_random, write_files
 from tally import count
 
@@ -43,8 +43,6 @@ TINY_DEADLINE = 400
 IDLE = 2  # seconds after which a worker that says nothing has lost its parts
 ENDED = (0, "ended\n")  # the status of a worker that did its work, and what it says
 DATA = tomllib.loads((places.DATA / "faults.toml").read_text())
-needs_cluster = needs("distributed")
-each_kind = pytest.mark.parametrize("kind", ["SQLite", pytest.param("PostgreSQL", marks=needs_server)])
 PRELOAD = """# A worker of a cluster with this replies with what runs a command if it is unpickled, and does nothing else.
 import os
 
@@ -176,12 +174,21 @@ def case(shared_home):
         yield Case(shared_home, folder, server)
 
 
+@pytest.fixture(params=["SQLite", pytest.param("PostgreSQL", marks=needs_server)])
+def kind(request):
+    return request.param
+
+
+@pytest.fixture
+def url(case, kind):
+    """The URL of a new store of a kind, in which the archive is to be done."""
+    return case.begun(kind)
+
+
 # ---- workers that die or stop
 
-@each_kind
-def test_killed(case, kind):
+def test_killed(case, kind, url):
     """What a worker that is killed had begun is done by another one."""
-    url = case.begun(kind)
     status, _ = case.work(url, "kills_itself")
     case.count(f"a worker that is killed, {kind}", url, other_than((status, case.work(url)), (-signal.SIGKILL, ENDED)))
 
@@ -190,9 +197,8 @@ def test_killed(case, kind):
     ("stopped_reading", "SQLite"),
     *(pytest.param(fault, "PostgreSQL", marks=needs_server) for fault in ("stopped_reading", "stopped_sending", "stopped_storing")),
 ])
-def test_stopped(case, fault, kind):
+def test_stopped(case, fault, kind, url):
     """What a worker had begun that is stopped is done by another one. When it goes on, it stores nothing of that."""
-    url = case.begun(kind)
     stopped = case.stopped_worker(fault, url)
     other = case.work(url)
     whole = difference(rows_of(url), case.wanted)
@@ -210,10 +216,8 @@ def test_stopped_process(case):
     case.count("a process of index that is stopped", url, other_than((done.returncode, stopped.exists()), (0, True)) and str(done)[-400:])
 
 
-@each_kind
-def test_superseded(case, kind):
+def test_superseded(case, kind, url):
     """A worker whose parts were given to another one, while its session lives, is refused."""
-    url = case.begun(kind)
     stopped = case.stopped_worker("stopped_reading", url, seconds=DEADLINE)
     asked(url, "UPDATE parts SET state = 0 WHERE state = 1")
     other = case.begin_worker("none", url, seconds=DEADLINE)
@@ -297,7 +301,6 @@ def test_no_database(case):
     case.count("an index that goes on after that", url)
 
 
-@needs_server
 @needs_cluster
 def test_no_workers(case):
     """A cluster that has no workers, or is not there, is said in a line within five seconds, beside what Python takes for the modules."""
@@ -322,7 +325,6 @@ def indexed_by(case, made, url):
     return said_by(case.begin_index(url, "--scheduler", made.address))
 
 
-@needs_server
 @needs_cluster
 def test_scheduler_killed(case):
     """The scheduler is killed, with its workers or alone: the index ends, with all rows or with a line; called again it has all."""
@@ -345,7 +347,6 @@ def test_scheduler_killed(case):
         case.count(name, url, "" if is_so else f"{status} {said}")
 
 
-@needs_server
 @needs_cluster
 def test_lacking(case):
     """A worker of a cluster without the package is named, and so is one of another version; others do the work."""
@@ -374,7 +375,6 @@ def test_lacking(case):
         case.count("a cluster of which one worker can work", url, other_than(status, 0) and f"{status} {said}")
 
 
-@needs_server
 @needs_cluster
 def test_bomb(case):
     """What workers of a cluster send is never unpickled here. If they do nothing, it is said."""
@@ -388,7 +388,6 @@ def test_bomb(case):
     count_if("a cluster that sends what runs a command", is_so and not mark.exists(), "it was run" if mark.exists() else status, said)
 
 
-@needs_server
 @needs_cluster
 def test_four_workers(case):
     """A cluster of four workers ends with the very rows of one process."""
@@ -402,11 +401,9 @@ def test_four_workers(case):
 
 # ---- workers that lie
 
-@each_kind
-def test_versions(case, kind):
+def test_versions(case, kind, url):
     """A worker of another version is refused by a line that names both."""
     both = r"OtherVersion: this worker is cms-canon 0\.0\.1 \(0{12}\), .* worked on by \S+ \([0-9a-f]{12}\), library [0-9a-f]{12}, tables \S+: "
-    url = case.begun(kind)
     status, said = case.work(url, "other_version")
     count_if(f"a worker of another version, {kind}", status == 1 and re.match(both, said) and not rows_of(url)["files"], status, said)
 
@@ -579,10 +576,8 @@ def test_locked_ahead(case):
         is_put_right(case, "the number of a dead worker that is locked", url, own)
 
 
-@each_kind
-def test_meanwhile(case, kind):
+def test_meanwhile(case, kind, url):
     """An index that says otherwise how folders are to be read, while a worker has listed one, has all of them read so."""
-    url = case.begun(kind)
     with case.role(url) as own:
         stopped = case.stopped_worker("stopped_listing", own, seconds=DEADLINE)
         put_in(case.home, case.folder, url, "put_in(store.Store(sys.argv[1], makes=True), sys.argv[2:], anew=True, verifies=True)")
@@ -614,11 +609,9 @@ def test_divided_by_role(case):
     count_same("a liar that has one part of a folder, and changes the others", refused, [NO_OTHER] * 3)
 
 
-@each_kind
-def test_checks(case, kind):
+def test_checks(kind, url):
     """The database refuses values that no worker should send, and a worker that reads such a file stores a row that says so."""
     control = {"SQLite": "'a' || char(27) || 'b'", "PostgreSQL": "E'a\\u001bb'"}
-    url = case.begun(kind)
     short, whole = (f"'\\x{it}'" if kind == "PostgreSQL" else f"x'{it}'" for it in ("abcd", "ab" * 32))
     for name, (columns, values) in DATA["bad_rows"].items():
         values = values.format(row="1, 'f', 'm', 1, 1, 1, 1", short=short, whole=whole, control=control[kind])
@@ -629,10 +622,8 @@ def test_checks(case, kind):
             count_if(f"{name}, {kind}", type(error).__name__ == "IntegrityError", error)
 
 
-@each_kind
-def test_refused(case, kind):
+def test_refused(case, kind, url):
     """Rows that the database refuses are tried again, each file by itself: what is refused then has a row that says so, and nothing else is lost."""
-    url = case.begun(kind)
     case.count(f"rows that are refused at first, {kind}", url, other_than(case.work(url, "paths_in_names"), ENDED))
     url = case.begun(kind)
     came = case.work(url, "a_row_that_is_refused")
@@ -675,11 +666,9 @@ def verified(case, url, *words, status=1):
     return {path.removeprefix(str(case.folder)).removeprefix("/"): (why, worker) for why, worker, path in [it.split("\t") for it in lines]}
 
 
-@each_kind
 @pytest.mark.parametrize("fault, wanted", LEFT_OUT.items(), ids=LEFT_OUT)
-def test_left_out(case, kind, fault, wanted):
+def test_left_out(case, kind, url, fault, wanted):
     """A worker that leaves out files or folders of its parts is found by `verify-store`, and named; an index has what it left out read."""
-    url = case.begun(kind)
     with case.role(url) as own:
         said = case.work(own, fault)
         finish(case.home, case.folder, url)
@@ -692,10 +681,8 @@ def test_left_out(case, kind, fault, wanted):
     case.count(f"what was left out is read, {fault}, {kind}", url, other_than(case.work(url), ENDED))
 
 
-@each_kind
-def test_two_names(case, kind):
+def test_two_names(case, kind, url):
     """Folders that a worker has done under a second name, so that each file would be there twice, are found, and are dropped by an index."""
-    url = case.begun(kind)
     with case.role(url) as own:
         said = case.work(own, "under_two_names")
         finish(case.home, case.folder, url)
@@ -785,18 +772,14 @@ def of_two_chunks(folder):
     return folder
 
 
-@each_kind
 @pytest.mark.parametrize("values", ["state = 1, holder = NULL", "tries = -7", "tries = 1, doing = 'zzz'"])
-def test_nobody(case, kind, values):
+def test_nobody(case, kind, url, values):
     """A part that nobody holds, or of which other numbers are said than can be, keeps no index from its end, and is read by it."""
-    url = case.begun(kind)
     asked(url, f"UPDATE parts SET {values}")
     case.count(f"a part with {values}, {kind}", url, other_than(case.work(url), ENDED))
 
 
-@each_kind
-def test_tried_too_often(case, kind):
-    url = case.begun(kind)
+def test_tried_too_often(case, kind, url):
     asked(url, "UPDATE parts SET tries = 2147483647")
     count_same(f"a part that was tried as often as can be, {kind}", (case.work(url), asked(url, "SELECT state FROM parts")), (ENDED, [(3,)]))
 
@@ -929,7 +912,6 @@ def test_divided(case):
     count_same("a folder that is divided", came, wanted)
 
 
-@each_kind
 def test_tiny(case, home, kind):
     """20,000 parts of one file are done by four workers: all rows are there, and none is there twice."""
     files = {f"{number % 100}/{number}/f": b"text" for number in range(TINY)}

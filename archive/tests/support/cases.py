@@ -24,11 +24,11 @@ from contextlib import closing
 from pathlib import Path
 from typing import Dict, NamedTuple
 
+from commands import SECONDS
 from elements import element, element_at
 from making import tarred, write_files, zipped
 from places import DATA
 
-SECONDS = 600  # no tool may take longer
 HOLE = 16384  # hexadecimal digits of /Contents
 DOCUMENT = b"A document.\r\nFrom here on a line that mbox quotes.\r\n" + bytes(range(256)) * 4
 TEXT = b"Dear reader,\nFrom now on all is signed.\n.\ntrailing space \nEnd\n"

@@ -32,10 +32,12 @@ def is_line(said, *parts):
     return said.count("\n") == 1 and all(it in said for it in parts)
 
 
-def needs(*packages, tools=()):
-    """Marks tests that are skipped, by the name of what is missing, if one of these packages or programs is not installed."""
+def needs(*packages, tools=(), server=False):
+    """Marks tests that are skipped, by the name of what is missing, if a package, a program or the server of PostgreSQL is not installed."""
     missing = [it for it in packages if importlib.util.find_spec(it) is None] + [it for it in tools if shutil.which(it) is None]
+    missing += ["PostgreSQL or python3-psycopg2"] if server and postgresql_server.tools() is None else []
     return pytest.mark.skipif(bool(missing), reason=f"not installed: {', '.join(missing)}")
 
 
-needs_server = pytest.mark.skipif(postgresql_server.tools() is None, reason="PostgreSQL or python3-psycopg2 is not installed")
+needs_server = needs(server=True)
+needs_cluster = needs("distributed", server=True)
