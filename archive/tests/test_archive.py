@@ -53,8 +53,6 @@ ODD = {  # names of files, and as they are written
     rb"a backslash \xff.p7s": r"a backslash \\xff.p7s",
     b"control \t\x1b\xc2\x9b.p7s": r"control \x09\x1b\xc2\x9b.p7s",
 }
-
-
 EMPTY = Made(b"", None, None, "E1 at 0")
 
 

@@ -114,7 +114,7 @@ def test_limits(archive, home):
 @pytest.mark.parametrize("kind, used", KINDS.items(), ids=KINDS)
 def test_cases(archive, home, kinds, tally, kind, used):
     for it in used:
-        tally.has_package(it) if it in PACKAGES else tally.has(it)
+        (tally.has_package if it in PACKAGES else tally.has)(it)
     for name, case in kinds[kind].items():
         came, facts = said_of(archive, write(home, name, case))
         # The place of a signature in an attached PDF is not known when it is made.
