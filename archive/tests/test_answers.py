@@ -20,10 +20,10 @@ from pathlib import Path
 
 import pytest
 from cases import DIFFERS, DOCUMENT, FITS, NO_DIGEST, bare_token, made_jar, place_of, said_in, signed_pdf
-from commands import SETTLED, asked, command, command_says, lines_of, ran, store_of
 from counting import count_if, count_same, needs, needs_server
 from making import tarred, write_files, zipped
 from places import DATA, TOP
+from running import SETTLED, asked, command, command_says, lines_of, ran, store_of
 
 pytestmark = [pytest.mark.archive, needs("click", "tqdm", "sqlalchemy", "cryptography", tools=["openssl"])]
 NAMES_OF_A_LIAR = ("a\\x00", "a\\xzz", "..\\x2f..\\x2fsecret.p7m", "..", "a\\x2e")

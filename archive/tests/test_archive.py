@@ -25,14 +25,14 @@ from types import SimpleNamespace
 
 import dask_cluster
 import pytest
-from commands import (
-    AS_NOBODY, SECONDS, SETTLED, asked, begun, command, command_says, ended, environment_of, faulty_processes, lines_of, ran, rows_in, store_of,
-    wait_until, words_of,
-)
 from counting import count_if, count_same, is_line, needs, needs_cluster, needs_server
 from elements import element, message as message_of
 from making import COMPRESSIONS, Made, grouped, message_at_random, message_of_its_own, packed_by, write_files
 from places import RELEASE
+from running import (
+    AS_NOBODY, SECONDS, SETTLED, asked, begun, command, command_says, ended, environment_of, faulty_processes, lines_of, ran, rows_in, store_of,
+    wait_until, words_of,
+)
 from tally import count
 
 pytestmark = [pytest.mark.archive, needs("click", "tqdm", "sqlalchemy")]

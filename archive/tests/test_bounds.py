@@ -21,10 +21,10 @@ from typing import Callable, Dict, List, NamedTuple, Tuple
 
 import pytest
 from cases import Maker
-from commands import environment_of
 from counting import count_if, needs
 from making import write_files, zipped
 from odd_pdfs import PLAIN, laid_out
+from running import environment_of
 
 pytestmark = [pytest.mark.archive, needs("cryptography", tools=["openssl"])]
 SEARCHING = int(os.environ.get("BOUNDS_SECONDS", 20))

@@ -7,9 +7,9 @@ from pathlib import Path
 from random import Random
 
 import pytest
-from commands import command, command_says, lines_of
 from counting import count_if, count_same, is_line, needs
 from making import grouped, row_with
+from running import command, command_says, lines_of
 
 pytestmark = [pytest.mark.archive, needs("click", "tqdm", "sqlalchemy", "cryptography", "numpy")]
 SEED = 2718

@@ -19,10 +19,10 @@ from typing import Callable, Dict, List, NamedTuple, Sequence, Set, Tuple
 
 import pytest
 from cases import DIFFERS, FITS, PARTLY, said_in
-from commands import SECONDS
 from counting import count_if, count_same, needs
 from odd_pdfs import HOLE, PLAIN, ROOM, Odd, laid_out, objects_of
 from places import DATA
+from running import SECONDS
 from tally import count
 
 pytestmark = [pytest.mark.archive, needs("cryptography", tools=["openssl"])]

@@ -27,11 +27,11 @@ import dask_cluster
 import places
 import postgresql_server
 import pytest
-from commands import (
-    DEADLINE, SETTLED, asked, begun, command, command_says, ended, environment_of, faulty_processes, put_in, ran, rows_in, wait_until,
-)
 from counting import count_if, count_same, is_line, needs, needs_cluster, needs_server, other_than
 from making import message_at_random, write_files
+from running import (
+    DEADLINE, SETTLED, asked, begun, command, command_says, ended, environment_of, faulty_processes, put_in, ran, rows_in, wait_until,
+)
 from tally import count
 
 pytestmark = [pytest.mark.archive, needs("click", "tqdm", "sqlalchemy", "cryptography")]

@@ -36,10 +36,10 @@ from typing import Callable, Dict, Iterable, List, NamedTuple, Optional, Set, Tu
 
 import pytest
 from cases import DOCUMENT, FITS, Maker, made_jar, manifest, said_in, said_of, section, unzipped
-from commands import SECONDS, ended, ran
 from counting import count_if, count_same, needs
 from making import write_files
 from places import DATA
+from running import SECONDS, ended, ran
 from tally import count
 
 pytestmark = [pytest.mark.archive, needs("cryptography", "click", "tqdm", "sqlalchemy", tools=["openssl"])]

@@ -23,10 +23,10 @@ from types import SimpleNamespace
 from xml.etree import ElementTree
 
 import pytest
-from commands import SECONDS, asked, command, ended, lines_of
 from counting import count_if, count_same, needs
 from making import grouped, row_with, tarred, write_files, zipped
 from places import RELEASE, TOP
+from running import SECONDS, asked, command, ended, lines_of
 from tally import count
 
 pytestmark = [pytest.mark.archive, needs("click", "tqdm", "sqlalchemy", "jinja2", "matplotlib")]

@@ -28,13 +28,13 @@ from unittest import mock
 import cases
 import pytest
 from cases import DOCUMENT, SIGNER_INFO, bare_token, last_of, place_of, signed_pdf, with_unsigned
-from commands import (
-    AS_NOBODY, SECONDS, SETTLED, asked, begun, command, command_says, ended, environment_of, found_in, lines_of, ran, rows_in, store_of, wait_until,
-)
 from counting import count_if, count_same, is_line, needs, needs_server
 from elements import element, element_at, message
 from making import write_files, zipped
 from places import DATA
+from running import (
+    AS_NOBODY, SECONDS, SETTLED, asked, begun, command, command_says, ended, environment_of, found_in, lines_of, ran, rows_in, store_of, wait_until,
+)
 from tally import count
 
 pytestmark = [pytest.mark.archive, needs("click", "tqdm", "sqlalchemy", "cryptography", "jinja2", "matplotlib", tools=["openssl"])]

@@ -13,10 +13,10 @@ from types import SimpleNamespace
 import dask_cluster
 import postgresql_server
 import pytest
-from commands import SECONDS, ended, environment_of, put_in
 from counting import count_if, count_same, is_line, needs, needs_server
 from making import message_at_random, write_files
 from places import ARCHIVE
+from running import SECONDS, ended, environment_of, put_in
 
 pytestmark = [pytest.mark.archive, needs("click", "tqdm", "sqlalchemy", "cryptography", tools=["openssl"]), needs_server]
 TEXT = (ARCHIVE / "docs" / "ARCHIVE.md").read_text()

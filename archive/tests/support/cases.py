@@ -24,10 +24,10 @@ from contextlib import closing
 from pathlib import Path
 from typing import Dict, NamedTuple
 
-from commands import SECONDS
 from elements import element, element_at
 from making import tarred, write_files, zipped
 from places import DATA
+from running import SECONDS
 
 HOLE = 16384  # hexadecimal digits of /Contents
 DOCUMENT = b"A document.\r\nFrom here on a line that mbox quotes.\r\n" + bytes(range(256)) * 4
