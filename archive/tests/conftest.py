@@ -5,6 +5,7 @@ from importlib import import_module
 import places
 import postgresql_server
 import pytest
+from counting import needs_server
 from places import copy_packages, temporary_home
 
 IN_CONTAINERS = {"files", "forms", "found", "mail", "packed", "sources", "zips"}
@@ -65,3 +66,15 @@ def server():
     """A PostgreSQL server, for tests that are marked with `needs_server`."""
     with postgresql_server.server() as made:
         yield made
+
+
+@pytest.fixture(params=["SQLite", pytest.param("PostgreSQL", marks=needs_server)])
+def kind(request):
+    """A kind of store."""
+    return request.param
+
+
+@pytest.fixture
+def new_store(request, home, kind):
+    """The URL of a store of a kind that is not made yet."""
+    return f"sqlite:///{home}/new.db" if kind == "SQLite" else request.getfixturevalue("server").make_database("new_store")

@@ -379,26 +379,17 @@ def test_early_worker(home, folder, files, server):
 
 
 @needs(tools=["parallel"])
-def test_line_of_parallel(home, folder, files):
-    """The line for GNU parallel, on this machine as its only host, stores what `index` stores."""
-    judge_line_of_parallel(home, folder, files, f"sqlite:///{home}/parallel.db", "SQLite")
-
-
-@needs(tools=["parallel"], server=True)
-def test_work_by_parallel(home, folder, files, server):
-    """That line begins `work` for a store in PostgreSQL, on this machine as both of its hosts."""
-    judge_line_of_parallel(home, folder, files, server.make_database("parallel"), "PostgreSQL")
-    names = {name for name, in server.ask("SELECT name FROM workers WHERE parts > 0", database="parallel")}
-    count_if("workers begun by it", len(names) > 1, names)
-
-
-def judge_line_of_parallel(home, folder, files, url, kind):
+def test_line_of_parallel(home, folder, files, kind, new_store):
+    """The line for GNU parallel, on this machine as its hosts, stores what `index` stores; for PostgreSQL it begins `work`."""
     program = f'#!/bin/sh\nexec {shlex.join(words_of())} "$@"\n'.encode()
     (write_files(home, {"hosts": b"1/:\n", "bin/cms-canon-archive": program}) / "bin" / "cms-canon-archive").chmod(0o755)
-    line = command(home, "index", folder, "--store", url, "--via-pipe").replace("--stay 60", "--stay 20")
+    line = command(home, "index", folder, "--store", new_store, "--via-pipe").replace("--stay 60", "--stay 20")
     environment = environment_of(home, PATH=f"{home}/bin:{os.environ['PATH']}")
     done = subprocess.run(["sh", "-c", line], cwd=home, env=environment, capture_output=True, text=True, timeout=SECONDS)
-    count(f"the line for GNU parallel, {kind}", f"{done.returncode} {done.stderr[-500:]}" if done.returncode else differs_from(files, store_of(url)))
+    count(f"the line for GNU parallel, {kind}", f"{done.returncode} {done.stderr[-500:]}" if done.returncode else differs_from(files, store_of(new_store)))
+    if kind == "PostgreSQL":
+        names = {name for name, in asked(new_store, "SELECT name FROM workers WHERE parts > 0")}
+        count_if("workers begun by it", len(names) > 1, names)
 
 
 @needs_cluster

@@ -174,11 +174,6 @@ def case(shared_home):
         yield Case(shared_home, folder, server)
 
 
-@pytest.fixture(params=["SQLite", pytest.param("PostgreSQL", marks=needs_server)])
-def kind(request):
-    return request.param
-
-
 @pytest.fixture
 def url(case, kind):
     """The URL of a new store of a kind, in which the archive is to be done."""

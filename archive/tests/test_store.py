@@ -529,16 +529,7 @@ def test_lines(home, folder):
         count_if(f"a line that begins {bad[:12]}", is_said and rows_in(home / f"bad {number}.db") >= whole - 2, status, said[-300:])
 
 
-def test_values(home, folder):
-    judge_values(home, folder, f"sqlite:///{home}/values.db")
-
-
-@needs_server
-def test_values_on_postgresql(home, folder, server):
-    judge_values(home, folder, server.make_database("values"))
-
-
-def judge_values(home, folder, url):
+def test_values(home, folder, kind, new_store):
     """`load` leaves out a line with a value that a database refuses, and stores the others."""
     lines = command(home, "rows", folder).splitlines()
     signed = next(it for it in map(json.loads, lines) if it.get("member") == "" and it.get("signed_by"))
@@ -551,10 +542,10 @@ def judge_values(home, folder, url):
     }
     for number, (name, value) in enumerate(values.items()):
         more = [{**signed, "path": "/bad/after"}, {**signed, "path": f"/bad/{number}", **value}, {"end": len(lines) + 1}]
-        status, said = load(home, "".join(f"{line}\n" for line in [*lines[:-1], *map(json.dumps, more)]), url)
+        status, said = load(home, "".join(f"{line}\n" for line in [*lines[:-1], *map(json.dumps, more)]), new_store)
         wanted = f"Error: left out 1 line not of `rows`, the first is line {len(lines) + 1}, and the file after each\n"
-        left = [it["file"] for it in lines_of(home, "signers", "--store", url) if it["file"].startswith("/bad/")]
-        count_same(f"a line with {name}, {url.partition(':')[0]}", (status, said, left), (1, wanted, ["/bad/after"]))
+        left = [it["file"] for it in lines_of(home, "signers", "--store", new_store) if it["file"].startswith("/bad/")]
+        count_same(f"a line with {name}, {kind}", (status, said, left), (1, wanted, ["/bad/after"]))
 
 
 @pytest.mark.usefixtures("place")
