@@ -449,13 +449,6 @@ def seen_by_email(octets: bytes, policy) -> bytes:
 JAVA_MAIL = [Path("/usr/share/java") / it for it in ("javax.mail.jar", "javax.activation.jar")]
 
 
-def has_java_mail(tally) -> bool:
-    if not all(it.exists() for it in JAVA_MAIL):
-        tally.skip("JavaMail", "libmail-java is not installed")
-        return False
-    return True
-
-
 def seen_by_java(folder: Path) -> Dict[str, str]:
     ran = subprocess.run(
         ["java", "-cp", ":".join(map(str, JAVA_MAIL)), str(DATA / "FirstParts.java"), str(folder)],
@@ -546,7 +539,9 @@ def test_mails_at_random(archive, home, make, tally):
     for count_of, octets in enumerate(letters):
         if fitting(said_in(archive, home, f"{count_of:05d}.eml", octets)[1]):
             fitting_ones.append(home / f"{count_of:05d}.eml")
-    has_java = tally.has("java") and has_java_mail(tally)
+    has_java = tally.has("java") and all(it.exists() for it in JAVA_MAIL)
+    if not has_java:
+        tally.skip("JavaMail", "libmail-java or java is not installed")
     by_java = seen_by_java(home) if has_java else {}
     for path in fitting_ones:
         octets = path.read_bytes()

@@ -29,6 +29,7 @@ import unicodedata
 import zipfile
 import zlib
 from collections import Counter
+from contextlib import suppress
 from dataclasses import dataclass, field, replace
 from pathlib import Path
 from random import Random
@@ -101,15 +102,10 @@ def by_zipfile(folder: Path, paths: List[Path]) -> Dict[str, Shown]:
 
 def _shown_by_zipfile(path: Path) -> Shown:
     shown: Shown = {}
-    try:
-        with zipfile.ZipFile(path) as file:
-            for info in (it for it in file.infolist() if not it.is_dir()):
-                try:
-                    shown.setdefault(info.filename, set()).add(digest(file.read(info)))
-                except Exception:  # of a member that it does not show
-                    pass
-    except Exception:
-        pass
+    with suppress(Exception), zipfile.ZipFile(path) as file:
+        for info in (it for it in file.infolist() if not it.is_dir()):
+            with suppress(Exception):  # of a member that it does not show
+                shown.setdefault(info.filename, set()).add(digest(file.read(info)))
     return shown
 
 
@@ -119,16 +115,11 @@ def by_tarfile(folder: Path, paths: List[Path]) -> Dict[str, Shown]:
 
 def _shown_by_tarfile(folder: Path, path: Path) -> Shown:
     shown: Shown = {}
-    try:
-        with tarfile.open(path, "r:") as file:
-            for name in set(file.getnames()):
-                try:
-                    if (octets := file.extractfile(name)) is not None:
-                        shown[os.path.normpath(name)] = {digest(octets.read())}
-                except Exception:
-                    pass
-    except Exception:
-        pass
+    with suppress(Exception), tarfile.open(path, "r:") as file:
+        for name in set(file.getnames()):
+            with suppress(Exception):
+                if (octets := file.extractfile(name)) is not None:
+                    shown[os.path.normpath(name)] = {digest(octets.read())}
     return shown
 
 
@@ -138,8 +129,7 @@ def by_java(readers: str) -> Read:
     def read(folder: Path, paths: List[Path]) -> Dict[str, Shown]:
         names = "".join(f"{it}\n" for it in paths).encode()
         ran = subprocess.run(["java", JAVA, readers], input=names, capture_output=True, timeout=SECONDS)
-        if ran.returncode:
-            raise AssertionError(f"java: {ran.stderr.decode()[-800:]}")
+        assert ran.returncode == 0, f"java: {ran.stderr.decode()[-800:]}"
         shown: Dict[str, Shown] = {it.name: {} for it in paths}
         for parts in (line.split("\t") for line in ran.stdout.decode().splitlines()):
             if len(parts) == 3:

@@ -62,8 +62,7 @@ class Maker:
 
     def run(self, words: str, *more, octets=None) -> bytes:
         ran = subprocess.run([*words.split(), *map(str, more)], input=octets, capture_output=True, cwd=self.folder, timeout=SECONDS)
-        if ran.returncode:
-            raise AssertionError(f"{words}: {ran.stderr.decode()[-800:]}")
+        assert ran.returncode == 0, f"{words}: {ran.stderr.decode()[-800:]}"
         return ran.stdout
 
     def certificate(self, name, subject, usage, purposes) -> None:
