@@ -15,7 +15,8 @@ import tempfile
 import time
 from pathlib import Path
 
-sys.path.insert(0, str(Path(__file__).resolve().parents[1] / "tests"))
+TOP = Path(__file__).resolve().parents[2]
+sys.path[:0] = [str(TOP / it) for it in ("archive/tests/support", "tests/support", "tests")]
 
 from places import copy_packages  # noqa: E402
 
@@ -86,7 +87,7 @@ def main(words):
     with tempfile.TemporaryDirectory(prefix="containers-") as folder:
         home = Path(folder)
         copy_packages(home)
-        from containers import Maker, signed_pdf
+        from cases import Maker, signed_pdf
 
         results = [measure_files(home, int(words[0]))] if words else []  # first, since a process takes over the peak of the one that begins it
         make = Maker(home / "made")

@@ -1,6 +1,7 @@
-"""What a script of this folder counts, and how it ends: ./run-tests reads its last line.
+"""The checks that a test makes: all of them are made and counted, and the test fails with those that failed.
 
-What needs a tool that is missing is skipped by its name.
+The fixture `tally` of conftest.py gives a test its tally. Functions that many tests share count by this module, in the tally of the
+test that runs.
 """
 
 import importlib.util
@@ -12,27 +13,33 @@ def differing(wanted, came):
 
 
 class Tally:
-    """Counts checks, and reports those that fail or are skipped."""
+    """Counts checks, and keeps a line for each that fails or is skipped."""
+
+    running = None  # the tally of the test that runs
 
     def __init__(self):
-        self.passed = self.failed = self.skipped = 0
+        self.passed = 0
+        self.failures, self.skips = [], []
 
     def count(self, name, complaint=""):
-        self.passed += not complaint
-        self.failed += bool(complaint)
         if complaint:
-            print(f"FAILED {name}: {complaint}", flush=True)
+            self.failures.append(f"{name}: {complaint}")
+        else:
+            self.passed += 1
+
+    def add(self, passed):
+        """Counts checks that passed elsewhere, in a program that says how many."""
+        self.passed += passed
 
     def skip(self, name, why):
-        self.skipped += 1
-        print(f"skipped {name}: {why}", flush=True)
+        self.skips.append(f"{name}: {why}")
 
     def has(self, tool, name=""):
         """Whether this program is installed; if not, what needs it is skipped by its name, or else by the program's."""
         return self._is_there(shutil.which(tool), tool, name)
 
     def has_package(self, package, name=""):
-        """Whether this package of Python is installed; otherwise the same."""
+        """Whether this package of Python is installed; if not, what needs it is skipped likewise."""
         return self._is_there(importlib.util.find_spec(package), package, name)
 
     def _is_there(self, found, needed, name):
@@ -40,7 +47,7 @@ class Tally:
             self.skip(name or needed, f"{needed} is not installed")
         return found is not None
 
-    def end(self, may_skip_all=False):
-        """Prints the line of counts, and returns the exit status. That nothing passed is a failure, unless all may be skipped."""
-        print(f"{self.passed} passed, {self.failed} failed, {self.skipped} skipped")
-        return 0 if not self.failed and (self.passed or may_skip_all) else 1
+
+def count(name, complaint=""):
+    """Counts a check in the tally of the test that runs."""
+    Tally.running.count(name, complaint)

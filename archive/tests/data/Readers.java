@@ -14,7 +14,7 @@ import java.util.zip.ZipEntry;
 import java.util.zip.ZipInputStream;
 
 /**
- * Reads zips as Java does, so that archive/tests/readers.py can compare that with what other readers show.
+ * Reads zips as Java does, so that archive/tests/test_readers.py can compare that with what other readers show.
  *
  * <p>Its argument names the reader: JarFile, a verifying JarFile (as jarsigner has it), or ZipInputStream. A line of the input is a path. For
  * each the output has a line for each member: the path, the name of the member in hexadecimal digits, and the SHA-256 of its octets.

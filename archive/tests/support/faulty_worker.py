@@ -1,6 +1,6 @@
 """A worker of `cms-canon-archive` that has a fault, in this very process:
 
-    /usr/bin/python3 archive/tests/faulty_worker.py FAULT STORE SECONDS
+    /usr/bin/python3 archive/tests/support/faulty_worker.py FAULT STORE SECONDS
 
 SECONDS are those after which a worker that says nothing has lost its parts. It prints what it noticed.
 """

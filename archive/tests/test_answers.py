@@ -1,7 +1,4 @@
-#!/usr/bin/env python3
 """Asks the command `cms-canon-archive` of messages and stores that are out of the ordinary, and compares what it says with what was made.
-
-    /usr/bin/python3 archive/tests/answers.py
 
 A lying worker has stored names that are none, and names that lead out of the archive. Signers sign the content itself, without signed attributes.
 Paths are longer than the kernel takes, and files are FIFOs or encrypted. Each message is made by openssl.
@@ -16,21 +13,23 @@ import os
 import re
 import sqlite3
 import struct
-import sys
 import time
 import zipfile
+from contextlib import chdir
 from pathlib import Path
 
-import postgresql_server
-from archive import SETTLED, asked, command, command_says, count_if, count_same, judged_in_a_copy, lines_of, modules_of, ran, store_of, tally, tarred
-from archive import write_files, zipped
-from containers import DIFFERS, DOCUMENT, FITS, NO_DIGEST, Maker, bare_token, made_jar, place_of, signed_pdf
-from places import ARCHIVE, TOP
+import pytest
+from cases import DIFFERS, DOCUMENT, FITS, NO_DIGEST, bare_token, made_jar, place_of, said_in, signed_pdf
+from counting import count_if, count_same, needs, needs_server
+from making import tarred, write_files, zipped
+from places import DATA, TOP
+from running import SETTLED, asked, command, command_says, lines_of, ran, store_of
 
+pytestmark = [pytest.mark.archive, needs("click", "tqdm", "sqlalchemy", "cryptography", tools=["openssl"])]
 NAMES_OF_A_LIAR = ("a\\x00", "a\\xzz", "..\\x2f..\\x2fsecret.p7m", "..", "a\\x2e")
 
 
-def judge_liar(home, make):
+def test_liar(home, make):
     """Names in a store that no file has are said, and what lies outside is not copied."""
     write_files(home, {"secret.p7m": make.cms(b"secret", "-nodetach")})
     folder = write_files(home / "a" / "b", {"one.p7m": make.cms(DOCUMENT, "-nodetach"), "two.p7m": make.cms(DOCUMENT * 2, "-nodetach")})
@@ -49,7 +48,7 @@ def judge_liar(home, make):
     count_same("how many copies there are of it", len(copies), 2)
 
 
-def judge_verdicts(home, make):
+def test_verdicts(home, make):
     """Without signed attributes, the verdict of a signature decides the state."""
     right, wrong = make.cms(DOCUMENT, "-noattr"), make.cms(b"other", "-noattr")
     inside, token = make.cms(DOCUMENT, "-noattr", "-nodetach"), bare_token(make, DOCUMENT)
@@ -76,17 +75,15 @@ def judge_verdicts(home, make):
     count_if("the report of verdicts", "wrong.p7s" in page and "broken.p7m" in page, "does not name those that do not fit")
 
 
-def judge_long_path(home, make):
+def test_long_path(home, make):
     """A folder whose path is longer than the kernel takes has a row, also if `index` is called again."""
     top = home / "long"
     write_files(top, {"one.p7m": make.cms(DOCUMENT, "-nodetach")})
-    before, name = os.getcwd(), "d" * 200
-    os.chdir(top)
-    for _ in range(25):
-        os.mkdir(name)
-        os.chdir(name)
-    Path("deep.p7m").write_bytes(make.cms(b"deep", "-nodetach"))
-    os.chdir(before)
+    with chdir(top):
+        for _ in range(25):
+            os.mkdir("d" * 200)
+            os.chdir("d" * 200)
+        Path("deep.p7m").write_bytes(make.cms(b"deep", "-nodetach"))
     for words in ((), ()):
         command(home, "index", top, "--store", "long.db", "--jobs", 1, *words)
         rows = [(it.what, it.error) for it in store_of(home / "long.db") if it.what == "unreadable"]
@@ -95,7 +92,7 @@ def judge_long_path(home, make):
     count_same("refusals of it", [it["error"] for it in refusals], ["File name too long"])
 
 
-def judge_same(home, make):
+def test_same(home, make):
     """`same` reads a file as `show` does, whatever keeps the message; a FIFO is said to be one."""
     der, pem = make.cms(DOCUMENT, "-nodetach"), make.cms(DOCUMENT, "-nodetach", form="PEM")
     folder = write_files(home / "same", {"one.p7m": der})
@@ -115,18 +112,17 @@ def judge_same(home, make):
         count_if(f"a FIFO, {words[0]}", "it is a FIFO" in said, said)
 
 
-def judge_encrypted(home, archive):
+def test_encrypted(home, archive):
     """An encrypted member of a zip is said to be one, without a name as Python writes it."""
     octets = bytearray(zipped({"it's \u00e9.p7m": b"x" * 20}, zipfile.ZIP_STORED))
     for mark, place in ((b"PK\3\4", 6), (b"PK\1\2", 8)):
         octets[octets.index(mark) + place] |= 1
-    folder = write_files(home / "encrypted", {"a.zip": bytes(octets)})
-    facts = {it.where: archive.judging.judged(it) for it in archive.files.found_in_path(str(folder / "a.zip"))}
+    facts = said_in(archive, home, "a.zip", bytes(octets))[1]
     (one,) = [it for where, it in facts.items() if where]
     count_same("an encrypted member", (one.what.value, one.note), ("unreadable", "it is encrypted"))
 
 
-def judge_ends(home, archive):
+def test_ends(home, archive):
     """A zip that ends a picture in a zip is named if the picture has at most 1 MiB: a larger one is said not to be read to its end."""
     picture = b"\xff\xd8\xff\xe0" + bytes(range(256))
     for size, wanted in ((1 << 10, ("zip after something else", "")), (2 << 20, ("file", "it is so large that its end was not looked at"))):
@@ -136,12 +132,12 @@ def judge_ends(home, archive):
         count_same(f"a zip that ends a picture of {size:,} octets", said, [wanted])
 
 
-def judge_weak(home, make):
+def test_weak(home, make):
     """`algorithms --weak` counts imprints, manifests and the signatures of certificates, and not only signers."""
     make.run("openssl req -x509 -newkey rsa:2048 -sha1 -nodes -keyout old.key -out old.pem -subj /CN=Old -days 1")
     by_old = make.run("openssl cms -sign -binary -nodetach -signer old.pem -inkey old.key -md sha256 -outform DER", octets=DOCUMENT)
     (make.folder / "query").write_bytes(make.run(f"openssl ts -query -digest {hashlib.sha1(DOCUMENT).hexdigest()} -sha1 -cert"))
-    settings = (ARCHIVE / "tests" / "data" / "time-stamping.cnf").read_text()
+    settings = (DATA / "time-stamping.cnf").read_text()
     write_files(make.folder, {"sha1.cnf": re.sub(r"(?m)^(digests *=.*)$", r"\1, sha1", settings).encode()})
     stamp = make.run("openssl ts -reply -queryfile query -token_out -config sha1.cnf")
     members = {"old.p7m": by_old, "doc.tst": stamp, "doc": DOCUMENT, "md5.jar": made_jar(make, {"doc": DOCUMENT}, "MD5", "md5"),
@@ -219,7 +215,7 @@ def with_block(octets: bytes) -> bytes:
     return octets[:at] + block + bytes(end)
 
 
-def judge_not_read(home):
+def test_not_read(home):
     """What is not looked into has a row, is listed and counted, by itself and in a zip and a tar."""
     files = {name: octets for name, (octets, _, _) in NOT_READ.items()}
     apk = with_block(zipped({"AndroidManifest.xml": b"\3\0\x08\0", "classes.dex": b"dex"}))
@@ -243,23 +239,29 @@ DEGRADED = (  # has a store on PostgreSQL the tables of 0.17.0
 )
 
 
-def judge_migration(home, make):
+@pytest.fixture
+def files(home, make):
+    """A folder with a document that is signed."""
+    return write_files(home / "migrated", {"doc": DOCUMENT, "doc.p7s": make.cms(DOCUMENT)})
+
+
+def test_old_store(home, files):
     """A store of 0.17.0 gets the tables of now and keeps its rows; what it did not know is stored in it from then on."""
-    files = write_files(home / "migrated", {"doc": DOCUMENT, "doc.p7s": make.cms(DOCUMENT)})
     with sqlite3.connect(home / "old.db") as store:
-        store.executescript((ARCHIVE / "tests" / "data" / "store-0.17.0.sql").read_text())
+        store.executescript((DATA / "store-0.17.0.sql").read_text())
     lines_of(home, "check", "--store", "old.db")
     came = {(it.path, it.member): it.state for it in store_of(home / "old.db") if it.state}
     count_same("a store of 0.17.0 that is asked", came, OLD_STORE_SAYS)
     judge_migrated(home, files, home / "old.db")
-    (files / "a.7z").unlink()
-    if postgresql_server.is_there(tally):
-        with postgresql_server.server() as server:
-            url = server.make_database("older")
-            command(home, "index", files, "--store", url)
-            for statement in DEGRADED:
-                asked(url, statement)
-            judge_migrated(home, files, url)
+
+
+@needs_server
+def test_old_store_on_postgresql(home, files, server):
+    url = server.make_database("older")
+    command(home, "index", files, "--store", url)
+    for statement in DEGRADED:
+        asked(url, statement)
+    judge_migrated(home, files, url)
 
 
 def judge_migrated(home, files, store):
@@ -272,7 +274,7 @@ def judge_migrated(home, files, store):
     count_same(f"the algorithms of certificates in it, {where}", signed, ["rsa-sha256"])
 
 
-def judge_signed_content(home, archive, make):
+def test_signed_content(home, archive, make):
     """What is signed is looked into as any container is: a signed PDF, what is signed again, a signed mail in an opaque one, a zip."""
     pdf = signed_pdf(make)
     of_pdf = make.cms(pdf, "-nodetach")
@@ -298,12 +300,10 @@ def judge_signed_content(home, archive, make):
         "deep.p7m": (deep, {"!".join(["signed content"] * depth): FITS if depth < 5 else "too large" for depth in range(6)}),
     }
     for name, (octets, wanted) in cases.items():
-        path = write_files(home / "signed", {name: octets}) / name
-        facts = {it.where: archive.judging.judged(it) for it in archive.files.found_in_path(str(path))}
-        count_same(f"what is in {name}", {where: it.state.value if it.state else it.what.value for where, it in facts.items()}, wanted)
+        count_same(f"what is in {name}", said_in(archive, home, name, octets)[0], wanted)
 
 
-def judge_release(home, archive, make):
+def test_release(home, archive, make):
     """Files are read again only if their rows would be others: not for a release alone. A release with the same number stores the same rows."""
     members = {"doc": DOCUMENT, "doc.p7s": make.cms(DOCUMENT), "one.pdf": signed_pdf(make), "a.zip": zipped({"doc.p7s": make.cms(DOCUMENT), "doc": DOCUMENT}),
                "mail.eml": make.mail(), "doc.tst": make.token(DOCUMENT), "md5.jar": made_jar(make, {"doc": DOCUMENT}, "MD5", "md5"), "cut.p7s": b"0\x82",
@@ -326,7 +326,7 @@ def judge_release(home, archive, make):
     count_if("a release with other rows has another number", rows[0] == rows[1] or max(readers[0]) < min(readers[1]), readers)
 
 
-def judge_progress(home, make):
+def test_progress(home, make):
     """Times that cannot be, and notes that are long, are not shown as a worker that lies has them."""
     folder = write_files(home / "progress", {"one.p7m": make.cms(DOCUMENT, "-nodetach")})
     command(home, "index", folder, "--store", "progress.db")
@@ -353,7 +353,7 @@ def pdf_with(files):
     return out.getvalue()
 
 
-def judge_not_found(home, archive, make):
+def test_not_found(home, archive, make, tally):
     """What lies in an attachment of a PDF, in PEM of any label or after a byte-order mark, or under a name that is none, is found."""
     signed, der = make.cms(DOCUMENT, "-nodetach", form="PEM"), make.cms(DOCUMENT, "-nodetach")
     wrong_name = zipped({"\u00e9a.p7m": der}).replace("\u00e9".encode(), b"\xff\xff")
@@ -373,28 +373,4 @@ def judge_not_found(home, archive, make):
         cases["attached.pdf"] = (pdf_with({"a.p7m": der, "in.zip": zipped({"b.p7m": der}), "text.txt": b"text"}), wanted)
         cases["bomb.pdf"] = (pdf_with({"bomb.p7m": bytes(300 << 20)}), {"": "container without message", "attachment bomb.p7m": "too large"})
     for name, (octets, wanted) in cases.items():
-        path = write_files(home / "not found", {name: octets}) / name
-        facts = {it.where: archive.judging.judged(it) for it in archive.files.found_in_path(str(path))}
-        count_same(f"what is in {name}", {where: it.state.value if it.state else it.what.value for where, it in facts.items()}, wanted)
-
-
-def judge_copy(home):
-    archive = modules_of(home, "judging", "reading", "containers.files")
-    make = Maker(home / "made")
-    judge_liar(home, make)
-    judge_verdicts(home, make)
-    judge_long_path(home, make)
-    judge_same(home, make)
-    judge_encrypted(home, archive)
-    judge_ends(home, archive)
-    judge_weak(home, make)
-    judge_signed_content(home, archive, make)
-    judge_not_found(home, archive, make)
-    judge_not_read(home)
-    judge_migration(home, make)
-    judge_release(home, archive, make)
-    judge_progress(home, make)
-
-
-if __name__ == "__main__":
-    sys.exit(judged_in_a_copy(("click", "tqdm", "sqlalchemy", "cryptography"), judge_copy) if tally.has("openssl") else tally.end(may_skip_all=True))
+        count_same(f"what is in {name}", said_in(archive, home, name, octets)[0], wanted)

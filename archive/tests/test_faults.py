@@ -1,9 +1,6 @@
-#!/usr/bin/env python3
-"""Has workers of an index die, stop, lie, be cut off or be of another version, and their surroundings fail: the store ends the same, or says so.
+"""Has workers of an index die, stop, lie, be cut off or be of another version, and their surroundings fail: the store ends as it should, or says so.
 
-    /usr/bin/python3 archive/tests/faults.py
-
-What is stored is compared with what one process stores in a file of SQLite. Each fault has a worker of its own (archive/tests/faulty_worker.py); the
+What is stored is compared with what one process stores in a file of SQLite. Each fault has a worker of its own (support/faulty_worker.py); the
 server of PostgreSQL is killed and begun again, the scheduler of a Dask cluster is killed, and its workers send what would run a command if it
 were unpickled. The rights of the role of workers are those of archive/docs/ARCHIVE.md. Nothing may take longer than its deadline.
 """
@@ -27,11 +24,17 @@ from pathlib import Path
 from random import Random
 
 import dask_cluster
+import places
 import postgresql_server
-from archive import DEADLINE, SETTLED, asked, begun, command, command_says, count, count_if, count_same, ended, environment_of, faulty_processes
-from archive import is_line, judged_in_a_copy, message_at_random, other_than, put_in, ran, rows_in, tally, wait_until, write_files
-from places import ARCHIVE, PACKAGES
+import pytest
+from counting import count_if, count_same, is_line, needs, needs_cluster, needs_server, other_than
+from making import message_at_random, write_files
+from running import (
+    DEADLINE, SETTLED, asked, begun, command, command_says, ended, environment_of, faulty_processes, put_in, ran, rows_in, wait_until,
+)
+from tally import count
 
+pytestmark = [pytest.mark.archive, needs("click", "tqdm", "sqlalchemy", "cryptography")]
 SEED = 31615652
 FOLDERS, IN_A_FOLDER = 30, 20
 TINY = 20_000  # parts of one file
@@ -39,7 +42,7 @@ MEMBERS = 200
 TINY_DEADLINE = 400
 IDLE = 2  # seconds after which a worker that says nothing has lost its parts
 ENDED = (0, "ended\n")  # the status of a worker that did its work, and what it says
-DATA = tomllib.loads((ARCHIVE / "tests" / "data" / "faults.toml").read_text())
+DATA = tomllib.loads((places.DATA / "faults.toml").read_text())
 PRELOAD = """# A worker of a cluster with this replies with what runs a command if it is unpickled, and does nothing else.
 import os
 
@@ -101,7 +104,6 @@ class Case:
 
     def __init__(self, home, folder, server):
         self.home, self.folder, self.server, self.number = home, folder, server, 0
-        self.kinds = ("SQLite", "PostgreSQL") if server else ("SQLite",)
         command(home, "index", folder, "--store", home / "wanted.db", "--jobs", 1)
         self.wanted = rows_of(home / "wanted.db")
 
@@ -117,10 +119,6 @@ class Case:
         put_in(self.home, self.folder, url)
         return url
 
-    def begun_stores(self):
-        """Yields each kind of store, and the URL of a new one in which the archive is to be done."""
-        return ((kind, self.begun(kind)) for kind in self.kinds)
-
     @contextmanager
     def role(self, url):
         """Lends the URL of the newest store for the role of workers, with the rights of archive/docs/ARCHIVE.md, or the same one if it is of SQLite."""
@@ -128,7 +126,7 @@ class Case:
             yield url
             return
         database = f"case_{self.number}"
-        statements = re.search(r"```sql\n(CREATE ROLE archive_worker.*?)```", (ARCHIVE / "docs" / "ARCHIVE.md").read_text(), re.S)[1]
+        statements = re.search(r"```sql\n(CREATE ROLE archive_worker.*?)```", (places.ARCHIVE / "docs" / "ARCHIVE.md").read_text(), re.S)[1]
         self.server.ask("GRANT CREATE ON SCHEMA public TO PUBLIC", database=database)  # as PostgreSQL before 15 has it
         self.server.ask(statements, database=database)
         try:
@@ -137,7 +135,7 @@ class Case:
             self.server.ask("DROP OWNED BY archive_worker; DROP ROLE archive_worker", database=database)
 
     def begin_worker(self, fault, url, seconds=IDLE):
-        words = [sys.executable, ARCHIVE / "tests" / "faulty_worker.py", fault, url, seconds]
+        words = [sys.executable, Path(dask_cluster.__file__).with_name("faulty_worker.py"), fault, url, seconds]
         how = {"env": environment_of(self.home), "cwd": self.home, "stdout": subprocess.PIPE, "stderr": subprocess.STDOUT, "text": True}
         return subprocess.Popen([str(it) for it in words], **how)
 
@@ -167,29 +165,44 @@ class Case:
         count(name, more or difference(rows_of(url), self.wanted) or (f"parts that are not done: {left}" if left else ""))
 
 
+@pytest.fixture(scope="module")
+def case(shared_home):
+    folder = shared_home / "archive"
+    make_files(folder)
+    time.sleep(SETTLED)
+    with postgresql_server.server() if postgresql_server.tools() else nullcontext() as server:
+        yield Case(shared_home, folder, server)
+
+
+@pytest.fixture
+def url(case, kind):
+    """The URL of a new store of a kind, in which the archive is to be done."""
+    return case.begun(kind)
+
+
 # ---- workers that die or stop
 
-def judge_killed(case):
+def test_killed(case, kind, url):
     """What a worker that is killed had begun is done by another one."""
-    for kind, url in case.begun_stores():
-        status, _ = case.work(url, "kills_itself")
-        case.count(f"a worker that is killed, {kind}", url, other_than((status, case.work(url)), (-signal.SIGKILL, ENDED)))
+    status, _ = case.work(url, "kills_itself")
+    case.count(f"a worker that is killed, {kind}", url, other_than((status, case.work(url)), (-signal.SIGKILL, ENDED)))
 
 
-def judge_stopped(case):
+@pytest.mark.parametrize("fault, kind", [
+    ("stopped_reading", "SQLite"),
+    *(pytest.param(fault, "PostgreSQL", marks=needs_server) for fault in ("stopped_reading", "stopped_sending", "stopped_storing")),
+])
+def test_stopped(case, fault, kind, url):
     """What a worker had begun that is stopped is done by another one. When it goes on, it stores nothing of that."""
-    for kind in case.kinds:
-        for fault in ("stopped_reading", "stopped_sending", "stopped_storing")[: 1 if kind == "SQLite" else 3]:
-            url = case.begun(kind)
-            stopped = case.stopped_worker(fault, url)
-            other = case.work(url)
-            whole = difference(rows_of(url), case.wanted)
-            status, said = said_by(stopped)
-            came = (other, status, said.splitlines()[0], said.splitlines()[-1])
-            case.count(f"{fault}, {kind}", url, whole or other_than(came, (ENDED, 0, "stopped", "ended")) and f"{other} {said}")
+    stopped = case.stopped_worker(fault, url)
+    other = case.work(url)
+    whole = difference(rows_of(url), case.wanted)
+    status, said = said_by(stopped)
+    came = (other, status, said.splitlines()[0], said.splitlines()[-1])
+    case.count(f"{fault}, {kind}", url, whole or other_than(came, (ENDED, 0, "stopped", "ended")) and f"{other} {said}")
 
 
-def judge_stopped_process(case):
+def test_stopped_process(case):
     """A process of `index` that is stopped in its transaction in SQLite is killed, since it keeps all others waiting."""
     url, stopped = case.store("SQLite"), case.home / "stopped"
     words = ("index", case.folder, "--store", url, "--jobs", 2, "--idle-timeout", IDLE)
@@ -198,16 +211,15 @@ def judge_stopped_process(case):
     case.count("a process of index that is stopped", url, other_than((done.returncode, stopped.exists()), (0, True)) and str(done)[-400:])
 
 
-def judge_superseded(case):
+def test_superseded(case, kind, url):
     """A worker whose parts were given to another one, while its session lives, is refused."""
-    for kind, url in case.begun_stores():
-        stopped = case.stopped_worker("stopped_reading", url, seconds=DEADLINE)
-        asked(url, "UPDATE parts SET state = 0 WHERE state = 1")
-        other = case.begin_worker("none", url, seconds=DEADLINE)
-        wait_until(lambda: not asked(url, "SELECT 1 FROM parts WHERE state <> 2"), DEADLINE)
-        status, said = said_by(stopped)
-        is_so = status == 0 and "\nSuperseded: parts that this worker had taken were given to another one\n" in said
-        case.count(f"a worker that was given up, {kind}", url, other_than((said_by(other), is_so), (ENDED, True)) and f"{status} {said}")
+    stopped = case.stopped_worker("stopped_reading", url, seconds=DEADLINE)
+    asked(url, "UPDATE parts SET state = 0 WHERE state = 1")
+    other = case.begin_worker("none", url, seconds=DEADLINE)
+    wait_until(lambda: not asked(url, "SELECT 1 FROM parts WHERE state <> 2"), DEADLINE)
+    status, said = said_by(stopped)
+    is_so = status == 0 and "\nSuperseded: parts that this worker had taken were given to another one\n" in said
+    case.count(f"a worker that was given up, {kind}", url, other_than((said_by(other), is_so), (ENDED, True)) and f"{status} {said}")
 
 
 # ---- what is between a worker and the database
@@ -237,7 +249,8 @@ def begin_proxy(place):
         return process, listening.getsockname()[1]
 
 
-def judge_cut(case):
+@needs_server
+def test_cut(case):
     """A worker that is cut from the database ends after a while and says why; one whose session was ended begins another one."""
     url = case.begun("PostgreSQL")
     proxy, port = begin_proxy(f"{case.server.folder}/.s.PGSQL.5432")
@@ -255,7 +268,8 @@ def judge_cut(case):
     case.count("a worker whose session is ended", url, other_than(said_by(worker), (0, "stopped\nended\n")))
 
 
-def judge_restart(case):
+@needs_server
+def test_restart(case):
     """The database is killed in the middle of an index, and begun again: the index goes on, and ends with the same rows."""
     url = case.store("PostgreSQL")
     indexing = case.begin_index(url, "--jobs", 3)
@@ -268,7 +282,8 @@ def judge_restart(case):
     case.count("a database that is killed and begun again", url, "" if is_well else f"{rows} rows, {said[-300:]}")
 
 
-def judge_no_database(case):
+@needs_server
+def test_no_database(case):
     """A database that does not come back ends the index after a while, with a line that says so."""
     url = case.store("PostgreSQL")
     indexing = case.begin_index(url, "--jobs", 2, "--idle-timeout", IDLE)
@@ -281,7 +296,8 @@ def judge_no_database(case):
     case.count("an index that goes on after that", url)
 
 
-def judge_no_workers(case):
+@needs_cluster
+def test_no_workers(case):
     """A cluster that has no workers, or is not there, is said in a line within five seconds, beside what Python takes for the modules."""
     url = case.store("PostgreSQL")
     began = time.monotonic()
@@ -304,7 +320,8 @@ def indexed_by(case, made, url):
     return said_by(case.begin_index(url, "--scheduler", made.address))
 
 
-def judge_scheduler_killed(case):
+@needs_cluster
+def test_scheduler_killed(case):
     """The scheduler is killed, with its workers or alone: the index ends, with all rows or with a line; called again it has all."""
     for kills_workers in (True, False):
         url = case.store("PostgreSQL")
@@ -325,13 +342,14 @@ def judge_scheduler_killed(case):
         case.count(name, url, "" if is_so else f"{status} {said}")
 
 
-def judge_lacking(case):
+@needs_cluster
+def test_lacking(case):
     """A worker of a cluster without the package is named, and so is one of another version; others do the work."""
     url = case.store("PostgreSQL")
     lacking, other = case.home / "lacking", case.home / "other version"
     lacking.mkdir()
-    for package in PACKAGES:
-        shutil.copytree(case.home / package.name, other / package.name)
+    for package in places.PACKAGES:
+        shutil.copytree(places.copy / package.name, other / package.name)
     write_files(other, {"cms_canon/_version.py": b'__version__ = "0.0.1"\n'})
     environment = {name: value for name, value in os.environ.items() if name != "PYTHONPATH"}
     with dask_cluster.cluster(lacking, environment, workers=1) as made:
@@ -346,13 +364,14 @@ def judge_lacking(case):
         count_if("a refusal that is noted", noted and re.search(r"this worker is cms-canon 0\.0\.1 \(.*worked on by", noted[0][0], re.S), noted)
         said = command(case.home, "progress", "--store", url)
         count_if("a refusal in progress", "this worker is cms-canon 0.0.1" in said, said)
-        made.add_worker(PYTHONPATH=str(case.home))
+        made.add_worker(PYTHONPATH=str(places.copy))
         made.wait_for(3)
         status, said = indexed_by(case, made, url)
         case.count("a cluster of which one worker can work", url, other_than(status, 0) and f"{status} {said}")
 
 
-def judge_bomb(case):
+@needs_cluster
+def test_bomb(case):
     """What workers of a cluster send is never unpickled here. If they do nothing, it is said."""
     url, mark, preload = case.store("PostgreSQL"), case.home / "unpickled", case.home / "bomb.py"
     preload.write_text(PRELOAD.format(mark=mark))
@@ -364,7 +383,8 @@ def judge_bomb(case):
     count_if("a cluster that sends what runs a command", is_so and not mark.exists(), "it was run" if mark.exists() else status, said)
 
 
-def judge_four_workers(case):
+@needs_cluster
+def test_four_workers(case):
     """A cluster of four workers ends with the very rows of one process."""
     url = case.store("PostgreSQL")
     with dask_cluster.cluster(case.home, environment_of(case.home), workers=4) as made:
@@ -376,38 +396,41 @@ def judge_four_workers(case):
 
 # ---- workers that lie
 
-def judge_versions(case):
+def test_versions(case, kind, url):
     """A worker of another version is refused by a line that names both."""
     both = r"OtherVersion: this worker is cms-canon 0\.0\.1 \(0{12}\), .* worked on by \S+ \([0-9a-f]{12}\), library [0-9a-f]{12}, tables \S+: "
-    for kind, url in case.begun_stores():
-        status, said = case.work(url, "other_version")
-        count_if(f"a worker of another version, {kind}", status == 1 and re.match(both, said) and not rows_of(url)["files"], status, said)
-
-
-def judge_role(case):
-    """The role of workers can do the work, and no more: the database refuses whatever is not of the parts that a worker holds."""
-    for fault, refused in {
-        "none": "", "rows_of_others": NOT_HELD, "rows_in_the_name_of_others": "rows under the number of another worker",
-        **dict.fromkeys(("parts_elsewhere", "another_name", "parts_verified_otherwise"), "a part that is not in a folder which this worker holds"),
-        **dict.fromkeys(("held_by_nobody", "taken_by_nobody", "in_very_many_chunks"), NO_OTHER),
-    }.items():
-        url = case.begun("PostgreSQL")
-        asked(url, "INSERT INTO workers (name, package, library, schema, began, seen) VALUES ('another', '', '', '', 0, 0)")
-        if fault == "held_by_nobody":  # in a store of a release that did not refuse it
-            asked(url, "CREATE OR REPLACE FUNCTION archive_parts_are_taken() RETURNS trigger LANGUAGE plpgsql AS 'BEGIN RETURN NULL; END'")
-            put_in(case.home, case.folder, url)
-        with case.role(url) as own:
-            status, said = case.work(own, fault)
-            status_wanted, wanted = (1, f"InsufficientPrivilege: {refused}") if refused else ENDED
-            is_so = status == status_wanted and wanted in said.replace("ProgrammingError", "InsufficientPrivilege")
-            count_if(f"the role of workers, {fault}", is_so, status, said)
-            if fault == "none":
-                case.count("what the role stored", url)
-                judge_rights(case, url)
+    status, said = case.work(url, "other_version")
+    count_if(f"a worker of another version, {kind}", status == 1 and re.match(both, said) and not rows_of(url)["files"], status, said)
 
 
 NOT_HELD = "rows of a part that this worker does not hold"
 NO_OTHER = "a part that another worker holds"
+ROLE = {  # why the database refuses what a worker with a fault does
+    "none": "", "rows_of_others": NOT_HELD, "rows_in_the_name_of_others": "rows under the number of another worker",
+    **dict.fromkeys(("parts_elsewhere", "another_name", "parts_verified_otherwise"), "a part that is not in a folder which this worker holds"),
+    **dict.fromkeys(("held_by_nobody", "taken_by_nobody", "in_very_many_chunks"), NO_OTHER),
+}
+
+
+@needs_server
+@pytest.mark.parametrize("fault, refused", ROLE.items(), ids=ROLE)
+def test_role(case, fault, refused):
+    """The role of workers can do the work, and no more: the database refuses whatever is not of the parts that a worker holds."""
+    url = case.begun("PostgreSQL")
+    asked(url, "INSERT INTO workers (name, package, library, schema, began, seen) VALUES ('another', '', '', '', 0, 0)")
+    if fault == "held_by_nobody":  # in a store of a release that did not refuse it
+        asked(url, "CREATE OR REPLACE FUNCTION archive_parts_are_taken() RETURNS trigger LANGUAGE plpgsql AS 'BEGIN RETURN NULL; END'")
+        put_in(case.home, case.folder, url)
+    with case.role(url) as own:
+        status, said = case.work(own, fault)
+        status_wanted, wanted = (1, f"InsufficientPrivilege: {refused}") if refused else ENDED
+        is_so = status == status_wanted and wanted in said.replace("ProgrammingError", "InsufficientPrivilege")
+        count_if(f"the role of workers, {fault}", is_so, status, said)
+        if fault == "none":
+            case.count("what the role stored", url)
+            judge_rights(case, url)
+
+
 WORKER_LOCK = 5652
 
 
@@ -491,16 +514,19 @@ def is_put_right(case, name, url, own, more=""):
     case.count(name, url, more or other_than((came, verified(case, url, status=0)), (ENDED, {})))
 
 
-def judge_left_behind(case):
+@needs_server
+@pytest.mark.parametrize("name", DATA["left_behind"])
+def test_left_behind(case, name):
     """What a liar leaves in the part that it gives back is refused, or is put right by the worker that takes it next."""
-    for name, (statement, wanted) in DATA["left_behind"].items():
-        with lying(case) as (url, liar, part, own):
-            refused = liar.says_of(part, statement)
-            liar.ask("UPDATE parts SET state = 0 WHERE state = 1")
-            is_put_right(case, f"what a liar leaves: {name}", url, own, other_than(refused, wanted))
+    statement, wanted = DATA["left_behind"][name]
+    with lying(case) as (url, liar, part, own):
+        refused = liar.says_of(part, statement)
+        liar.ask("UPDATE parts SET state = 0 WHERE state = 1")
+        is_put_right(case, f"what a liar leaves: {name}", url, own, other_than(refused, wanted))
 
 
-def judge_of_others(case):
+@needs_server
+def test_of_others(case):
     """The rows of a file go together: a liar that takes its part drops or adds none of those that another worker stored."""
     with lying(case, reads_first=True) as (url, liar, part, own):
         for statement in (it.format(part=part) for it in DATA["rows_of_others"]):
@@ -509,7 +535,8 @@ def judge_of_others(case):
         is_put_right(case, "a file that a liar had meanwhile", url, own)
 
 
-def judge_late(case):
+@needs_server
+def test_late(case):
     """A liar that lost its part stores nothing more of it, whatever its transaction sees or has not ended yet."""
     with lying(case) as (url, liar, part, own):
         liar.ask("BEGIN ISOLATION LEVEL REPEATABLE READ")
@@ -530,7 +557,8 @@ def judge_late(case):
         is_put_right(case, "a liar whose transaction ends late", url, own, other_than((refused, said_by(other)), ("", ENDED)))
 
 
-def judge_locked_ahead(case):
+@needs_server
+def test_locked_ahead(case):
     """A liar that has the lock of the numbers to come, or of one that died, keeps no worker from its work."""
     url = case.begun("PostgreSQL")
     with case.role(url) as own, closing(Liar(case)) as liar:
@@ -543,21 +571,21 @@ def judge_locked_ahead(case):
         is_put_right(case, "the number of a dead worker that is locked", url, own)
 
 
-def judge_meanwhile(case):
+def test_meanwhile(case, kind, url):
     """An index that says otherwise how folders are to be read, while a worker has listed one, has all of them read so."""
-    for kind, url in case.begun_stores():
-        with case.role(url) as own:
-            stopped = case.stopped_worker("stopped_listing", own, seconds=DEADLINE)
-            put_in(case.home, case.folder, url, "put_in(store.Store(sys.argv[1], makes=True), sys.argv[2:], anew=True, verifies=True)")
-            while stopped.poll() is None:
-                stopped.send_signal(signal.SIGCONT)
-                time.sleep(0.1)
-            status, said = said_by(stopped)
-        ways = [tuple(map(bool, it)) for it in asked(url, "SELECT DISTINCT anew, verifies FROM parts")]
-        count_same(f"an index that begins meanwhile, {kind}", (status, said.splitlines()[-1:], ways), (0, ["ended"], [(True, True)]))
+    with case.role(url) as own:
+        stopped = case.stopped_worker("stopped_listing", own, seconds=DEADLINE)
+        put_in(case.home, case.folder, url, "put_in(store.Store(sys.argv[1], makes=True), sys.argv[2:], anew=True, verifies=True)")
+        while stopped.poll() is None:
+            stopped.send_signal(signal.SIGCONT)
+            time.sleep(0.1)
+        status, said = said_by(stopped)
+    ways = [tuple(map(bool, it)) for it in asked(url, "SELECT DISTINCT anew, verifies FROM parts")]
+    count_same(f"an index that begins meanwhile, {kind}", (status, said.splitlines()[-1:], ways), (0, ["ended"], [(True, True)]))
 
 
-def judge_divided_by_role(case):
+@needs_server
+def test_divided_by_role(case):
     """The role of workers may divide a folder, and drop parts that there should not be."""
     folder = of_two_chunks(case.home / "divided by the role")
     url = case.store("PostgreSQL")
@@ -576,33 +604,32 @@ def judge_divided_by_role(case):
     count_same("a liar that has one part of a folder, and changes the others", refused, [NO_OTHER] * 3)
 
 
-def judge_checks(case):
+def test_checks(kind, url):
     """The database refuses values that no worker should send, and a worker that reads such a file stores a row that says so."""
     control = {"SQLite": "'a' || char(27) || 'b'", "PostgreSQL": "E'a\\u001bb'"}
-    for kind, url in case.begun_stores():
-        short, whole = (f"'\\x{it}'" if kind == "PostgreSQL" else f"x'{it}'" for it in ("abcd", "ab" * 32))
-        for name, (columns, values) in DATA["bad_rows"].items():
-            values = values.format(row="1, 'f', 'm', 1, 1, 1, 1", short=short, whole=whole, control=control[kind])
-            try:
-                asked(url, f"INSERT INTO places (part, file, member, length, size, changed, inode, {columns}) VALUES ({values})")
-                count(f"{name}, {kind}", "it was stored")
-            except Exception as error:
-                count_if(f"{name}, {kind}", type(error).__name__ == "IntegrityError", error)
+    short, whole = (f"'\\x{it}'" if kind == "PostgreSQL" else f"x'{it}'" for it in ("abcd", "ab" * 32))
+    for name, (columns, values) in DATA["bad_rows"].items():
+        values = values.format(row="1, 'f', 'm', 1, 1, 1, 1", short=short, whole=whole, control=control[kind])
+        try:
+            asked(url, f"INSERT INTO places (part, file, member, length, size, changed, inode, {columns}) VALUES ({values})")
+            count(f"{name}, {kind}", "it was stored")
+        except Exception as error:
+            count_if(f"{name}, {kind}", type(error).__name__ == "IntegrityError", error)
 
 
-def judge_refused(case):
+def test_refused(case, kind, url):
     """Rows that the database refuses are tried again, each file by itself: what is refused then has a row that says so, and nothing else is lost."""
-    for kind, url in case.begun_stores():
-        case.count(f"rows that are refused at first, {kind}", url, other_than(case.work(url, "paths_in_names"), ENDED))
-    for kind, url in case.begun_stores():
-        came = case.work(url, "a_row_that_is_refused")
-        errors = asked(url, "SELECT path, error FROM files WHERE error IS NOT NULL")
-        is_so = [path[-9:] for path, _ in errors] == ["/03/3.p7s"] and errors[0].error.startswith("the store refused what was read of it: ")
-        own, wanted = ([it for it in rows["files"] if not it[0].endswith("/03/3.p7s")] for rows in (rows_of(url), case.wanted))
-        count_if(f"a row that is refused, {kind}", is_so and own == wanted and came == ENDED, came, errors)
+    case.count(f"rows that are refused at first, {kind}", url, other_than(case.work(url, "paths_in_names"), ENDED))
+    url = case.begun(kind)
+    came = case.work(url, "a_row_that_is_refused")
+    errors = asked(url, "SELECT path, error FROM files WHERE error IS NOT NULL")
+    is_so = [path[-9:] for path, _ in errors] == ["/03/3.p7s"] and errors[0].error.startswith("the store refused what was read of it: ")
+    own, wanted = ([it for it in rows["files"] if not it[0].endswith("/03/3.p7s")] for rows in (rows_of(url), case.wanted))
+    count_if(f"a row that is refused, {kind}", is_so and own == wanted and came == ENDED, came, errors)
 
 
-def judge_wrong_digests(case):
+@needs_server
+def test_wrong_digests(case):
     """A worker that lies of what it reads is found by `verify-store` on another one, and named by its account."""
     url = case.begun("PostgreSQL")
     with case.role(url) as own:
@@ -634,35 +661,33 @@ def verified(case, url, *words, status=1):
     return {path.removeprefix(str(case.folder)).removeprefix("/"): (why, worker) for why, worker, path in [it.split("\t") for it in lines]}
 
 
-def judge_left_out(case):
+@pytest.mark.parametrize("fault, wanted", LEFT_OUT.items(), ids=LEFT_OUT)
+def test_left_out(case, kind, url, fault, wanted):
     """A worker that leaves out files or folders of its parts is found by `verify-store`, and named; an index has what it left out read."""
-    for fault, wanted in LEFT_OUT.items():
-        for kind, url in case.begun_stores():
-            with case.role(url) as own:
-                said = case.work(own, fault)
-                finish(case.home, case.folder, url)
-                found = verified(case, url, status=1 if wanted else 0)
-            named = "-" if fault == "dropping_its_part" else r"\S+:\d+ \(archive_worker from local\)" if kind == "PostgreSQL" else r"\S+:\d+"
-            is_named = all(re.fullmatch(named, worker) for _, worker in found.values())
-            is_so = all(found.get(path, "?")[0] == why for path, why in wanted.items()) and bool(found) == bool(wanted) and is_named
-            count_if(f"what is left out, {fault}, {kind}", said == ENDED and is_so, said, list(found.items())[:4])
-            put_in(case.home, case.folder, url, f"put_in(store.Store(sys.argv[1], makes=True), sys.argv[2:], anew={fault in FALSE})")
-            case.count(f"what was left out is read, {fault}, {kind}", url, other_than(case.work(url), ENDED))
+    with case.role(url) as own:
+        said = case.work(own, fault)
+        finish(case.home, case.folder, url)
+        found = verified(case, url, status=1 if wanted else 0)
+    named = "-" if fault == "dropping_its_part" else r"\S+:\d+ \(archive_worker from local\)" if kind == "PostgreSQL" else r"\S+:\d+"
+    is_named = all(re.fullmatch(named, worker) for _, worker in found.values())
+    is_so = all(found.get(path, "?")[0] == why for path, why in wanted.items()) and bool(found) == bool(wanted) and is_named
+    count_if(f"what is left out, {fault}, {kind}", said == ENDED and is_so, said, list(found.items())[:4])
+    put_in(case.home, case.folder, url, f"put_in(store.Store(sys.argv[1], makes=True), sys.argv[2:], anew={fault in FALSE})")
+    case.count(f"what was left out is read, {fault}, {kind}", url, other_than(case.work(url), ENDED))
 
 
-def judge_two_names(case):
+def test_two_names(case, kind, url):
     """Folders that a worker has done under a second name, so that each file would be there twice, are found, and are dropped by an index."""
-    for kind, url in case.begun_stores():
-        with case.role(url) as own:
-            said = case.work(own, "under_two_names")
-            finish(case.home, case.folder, url)
-            found = verified(case, url)
-        put_in(case.home, case.folder, url)
-        came = (said, len(found), {why for why, _ in found.values()}, "-" in {worker for _, worker in found.values()}, case.work(url))
-        case.count(f"folders under two names, {kind}", url, other_than(came, (ENDED, FOLDERS, {"no path is named so"}, False, ENDED)))
+    with case.role(url) as own:
+        said = case.work(own, "under_two_names")
+        finish(case.home, case.folder, url)
+        found = verified(case, url)
+    put_in(case.home, case.folder, url)
+    came = (said, len(found), {why for why, _ in found.values()}, "-" in {worker for _, worker in found.values()}, case.work(url))
+    case.count(f"folders under two names, {kind}", url, other_than(came, (ENDED, FOLDERS, {"no path is named so"}, False, ENDED)))
 
 
-def judge_sample(case):
+def test_sample(case):
     """A sample finds a worker that reads nothing, for which there is no row that could be chosen; and parts that are left are no good news."""
     url = case.begun("SQLite")
     came = (command_says(case.home, "verify-store", "--store", url, status=1), case.work(url, "unread"), set(verified(case, url, "--sample", "1")))
@@ -684,23 +709,28 @@ OTHERS = ", ".join(
 UNREADABLE = ", ".join({"what": "'unreadable'", "digest": "NULL", "state": "NULL", "reason": "NULL"}.get(it, it) for it in OTHERS.split(", "))
 
 
-def judge_lies(case):
-    """What a store says falsely is found, also with names that are none; a crash would hide what comes after it."""
-    store, lying = case.home / "honest.db", case.home / "lying.db"
+@pytest.fixture(scope="module")
+def honest(case):
+    """A store of the archive in which nothing is false."""
+    store = case.home / "honest.db"
     command(case.home, "index", case.folder, "--store", store)
     command(case.home, "verify-store", "--store", store)
-    ((folder,),) = asked(f"sqlite:///{store}", f"SELECT path FROM parts WHERE id = {FILE}")
+    return store
+
+
+@pytest.mark.parametrize("place, why, lie", DATA["lies"], ids=[why for _, why, _ in DATA["lies"]])
+def test_lie(honest, home, place, why, lie):
+    """What a store says falsely is found, also with names that are none; a crash would hide what comes after it."""
+    ((folder,),) = asked(f"sqlite:///{honest}", f"SELECT path FROM parts WHERE id = {FILE}")
     filled_in = {"part": FILE, "file": f"part = {FILE} AND file = '3.p7s'", "others": OTHERS, "unreadable": UNREADABLE, "digest": "ab" * 32}
-    for place, why, lie in DATA["lies"]:
-        lie, wanted = lie.format(**filled_in), place.format(folder.rstrip("/"), **filled_in)
-        shutil.copy(store, lying)
-        with closing(sqlite3.connect(lying)) as connection:
-            connection.executescript(lie)
-        cells = [it.split("\t") for it in command(case.home, "verify-store", "--store", lying, status=1).splitlines()]
-        count_if(f"a lie: {lie[:60]}", any(it[0].startswith(why) and it[1] != "-" and it[2] == wanted for it in cells), wanted, cells[:3])
+    lie, wanted = lie.format(**filled_in), place.format(folder.rstrip("/"), **filled_in)
+    with closing(sqlite3.connect(shutil.copy(honest, home / "lying.db"))) as connection:
+        connection.executescript(lie)
+    cells = [it.split("\t") for it in command(home, "verify-store", "--store", "lying.db", status=1).splitlines()]
+    count_if(f"a lie: {lie[:60]}", any(it[0].startswith(why) and it[1] != "-" and it[2] == wanted for it in cells), wanted, cells[:3])
 
 
-def judge_honest(case):
+def test_honest(case):
     """What honest workers stored is no difference, whatever the names, and wherever the store lies."""
     home = case.home / "honest"
     names = [os.fsdecode(it) for it in (b"a\nb", b"\xff", rb"\x41", b"a\x1b", b"tab\t", b"\\" * 200, b"x" * 255)]
@@ -737,18 +767,19 @@ def of_two_chunks(folder):
     return folder
 
 
-def judge_nobody(case):
+@pytest.mark.parametrize("values", ["state = 1, holder = NULL", "tries = -7", "tries = 1, doing = 'zzz'"])
+def test_nobody(case, kind, url, values):
     """A part that nobody holds, or of which other numbers are said than can be, keeps no index from its end, and is read by it."""
-    for values in ("state = 1, holder = NULL", "tries = -7", "tries = 1, doing = 'zzz'"):
-        for kind, url in case.begun_stores():
-            asked(url, f"UPDATE parts SET {values}")
-            case.count(f"a part with {values}, {kind}", url, other_than(case.work(url), ENDED))
-    for kind, url in case.begun_stores():
-        asked(url, "UPDATE parts SET tries = 2147483647")
-        count_same(f"a part that was tried as often as can be, {kind}", (case.work(url), asked(url, "SELECT state FROM parts")), (ENDED, [(3,)]))
+    asked(url, f"UPDATE parts SET {values}")
+    case.count(f"a part with {values}, {kind}", url, other_than(case.work(url), ENDED))
 
 
-def judge_begun_meanwhile(case):
+def test_tried_too_often(case, kind, url):
+    asked(url, "UPDATE parts SET tries = 2147483647")
+    count_same(f"a part that was tried as often as can be, {kind}", (case.work(url), asked(url, "SELECT state FROM parts")), (ENDED, [(3,)]))
+
+
+def test_begun_meanwhile(case):
     """If an index begins while a store is compared, it is not said that all was compared."""
     store = case.home / "compared.db"
     command(case.home, "index", case.folder, "--store", store)
@@ -758,7 +789,7 @@ def judge_begun_meanwhile(case):
     count_if("an index that begins while a store is compared", is_so, came)
 
 
-def judge_not_compared(case):
+def test_not_compared(case):
     """What cannot be looked at, or was loaded where a worker should have read it, is not said to be as it is stored."""
     url = case.store("SQLite")
     command(case.home, "index", case.folder, "--store", url)
@@ -775,7 +806,7 @@ def judge_not_compared(case):
     count_if("an archive that cannot be looked at", came.returncode == 1 and came.stdout.startswith("it cannot be looked at: "), came)
 
 
-def judge_two_workers(case):
+def test_two_workers(case):
     """If the rows of one file come from two workers, the one that stored what differs is named."""
     url, names = case.store("SQLite"), "package, library, schema, began, seen"
     command(case.home, "index", case.folder, "--store", url)
@@ -785,7 +816,7 @@ def judge_two_workers(case):
     count_same("who stored the row that differs", named, {"members.tar!7.p7s": "another worker"})
 
 
-def judge_named_file(case):
+def test_named_file(case):
     """A file that was named and is not stored is found, also beside one of its folder that was loaded."""
     store, one = case.home / "named.db", (case.folder / "00" / "0.p7s").read_bytes()
     folder = write_files(case.home / "named", {"loaded.p7s": one, "indexed.p7s": one})
@@ -798,13 +829,13 @@ def judge_named_file(case):
     count_same("a named file that is not stored", (before, after), ("", f"{NOT_STORED}\t-\t{folder}/indexed.p7s\n"))
 
 
-def judge_dropped_top(case):
+def test_dropped_top(case):
     """A worker that drops what was named is found before `index` has ended, too."""
     url = case.begun("SQLite")
     count_same("what was named is dropped", (case.work(url, "dropping_its_part"), verified(case, url)), (ENDED, {"": (NOT_STORED, "-")}))
 
 
-def judge_behind_a_link(case):
+def test_behind_a_link(case):
     """Files that are stored as if a folder was there, where a symbolic link is or what lies behind one, are found, though they can be read."""
     folder = case.home / "linked"
     shutil.copytree(case.folder / "00", folder / "true" / "inner")
@@ -823,7 +854,7 @@ def judge_behind_a_link(case):
     count_if("what is stored of links", set(false) <= {path for why, _, path in cells if why == "it is not there any more"}, cells[:3])
 
 
-def judge_other_chunks(case):
+def test_other_chunks(case):
     """Files that are stored under another part of their folder than their own are found, and an index puts them right."""
     folder = of_two_chunks(case.home / "two chunks")
     url = case.store("SQLite")
@@ -838,7 +869,7 @@ def judge_other_chunks(case):
 
 # ---- files that change while they are read
 
-def judge_changing(case):
+def test_changing(case):
     """A folder that vanishes after it was listed, and a tar that grows while it is read, are as if they had been so before, or are read again."""
     folder = write_files(case.home / "changing files", {"vanishing/one.p7s": b""})
     shutil.copytree(case.folder / "00", folder / "staying")
@@ -859,7 +890,7 @@ def judge_changing(case):
     count("a tar that grows", difference(rows_of(url), rows_of(case.home / "grown.db")) or other_than((came, members), (ENDED, [(1,)])))
 
 
-def judge_divided(case):
+def test_divided(case):
     """A folder that comes to have many files is divided, and each of them is stored once; what goes is dropped."""
     folder, url, came, before = case.home / "divided", case.store("SQLite"), [], 0
     for files in (1500, 2500, 30_000, 29_000):
@@ -876,45 +907,16 @@ def judge_divided(case):
     count_same("a folder that is divided", came, wanted)
 
 
-def judge_tiny(case):
+def test_tiny(case, home, kind):
     """20,000 parts of one file are done by four workers: all rows are there, and none is there twice."""
     files = {f"{number % 100}/{number}/f": b"text" for number in range(TINY)}
-    folder = write_files(case.home / "tiny", files)
-    for kind in case.kinds:
-        url = case.store(kind)
-        put_in(case.home, folder, url)
-        workers = [case.begin_worker("none", url, seconds=60) for _ in range(4)]
-        came = [said_by(it, TINY_DEADLINE) for it in workers]
-        found = sorted(it[0] for it in asked(url, "SELECT path FROM files"))
-        ((counted,),) = asked(url, "SELECT sum(files) FROM workers")
-        states = asked(url, "SELECT state, count(*) FROM parts GROUP BY state")
-        differs = other_than((came, states, int(counted)), ([ENDED] * 4, [(2, TINY + 101)], TINY))
-        count(f"{TINY:,} parts of one file, {kind}", differs or ("" if found == sorted(f"{folder}/{it}" for it in files) else f"{len(found)} rows"))
-
-
-JUDGES = (
-    *(judge_versions, judge_checks, judge_refused, judge_left_out, judge_two_names, judge_meanwhile, judge_sample, judge_lies, judge_honest),
-    *(judge_nobody, judge_two_workers, judge_named_file, judge_dropped_top, judge_behind_a_link, judge_begun_meanwhile, judge_not_compared),
-    *(judge_other_chunks, judge_killed, judge_stopped, judge_stopped_process, judge_superseded, judge_changing, judge_divided, judge_tiny),
-)
-JUDGES_OF_POSTGRESQL = (
-    *(judge_cut, judge_restart, judge_no_database, judge_role, judge_left_behind, judge_of_others, judge_late, judge_locked_ahead),
-    *(judge_divided_by_role, judge_wrong_digests),
-)
-JUDGES_OF_CLUSTERS = (judge_no_workers, judge_scheduler_killed, judge_lacking, judge_bomb, judge_four_workers)
-
-
-def judge_all(home):
-    folder = home / "archive"
-    make_files(folder)
-    time.sleep(SETTLED)
-    has_server = postgresql_server.is_there(tally)
-    has_clusters = has_server and tally.has_package("distributed")
-    with postgresql_server.server() if has_server else nullcontext() as server:
-        case = Case(home, folder, server)
-        for judge in (*JUDGES, *(JUDGES_OF_POSTGRESQL if has_server else ()), *(JUDGES_OF_CLUSTERS if has_clusters else ())):
-            judge(case)
-
-
-if __name__ == "__main__":
-    sys.exit(judged_in_a_copy(("click", "tqdm", "sqlalchemy", "cryptography"), judge_all))
+    folder = write_files(home / "tiny", files)
+    url = case.store(kind)
+    put_in(case.home, folder, url)
+    workers = [case.begin_worker("none", url, seconds=60) for _ in range(4)]
+    came = [said_by(it, TINY_DEADLINE) for it in workers]
+    found = sorted(it[0] for it in asked(url, "SELECT path FROM files"))
+    ((counted,),) = asked(url, "SELECT sum(files) FROM workers")
+    states = asked(url, "SELECT state, count(*) FROM parts GROUP BY state")
+    differs = other_than((came, states, int(counted)), ([ENDED] * 4, [(2, TINY + 101)], TINY))
+    count(f"{TINY:,} parts of one file, {kind}", differs or ("" if found == sorted(f"{folder}/{it}" for it in files) else f"{len(found)} rows"))

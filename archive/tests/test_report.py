@@ -1,11 +1,8 @@
-#!/usr/bin/env python3
 """Writes the page of `cms-canon-archive report` for archives that are made here, and compares what it says with what was made.
-
-    /usr/bin/python3 archive/tests/report.py
 
 One archive has messages of the vectors, as they are and in DER, copies of them, tokens of several years, files that are refused for
 each reason or cannot be read, and hostile names; one is empty; and one is a store with rows at random. The page has to stand alone,
-and is looked at by chromium, if it is installed. The packages are those of Debian: click, tqdm, SQLAlchemy, jinja2 and matplotlib.
+and is looked at by chromium, if it is installed.
 """
 
 import base64
@@ -16,7 +13,6 @@ import re
 import resource
 import shutil
 import subprocess
-import sys
 from collections import Counter, namedtuple
 from hashlib import sha256
 from html import escape
@@ -26,15 +22,17 @@ from random import Random
 from types import SimpleNamespace
 from xml.etree import ElementTree
 
-from archive import SECONDS, asked, command, count, count_if, count_same, ended, grouped, judged_in_a_copy, modules_of, tally, tarred
-from archive import write_files, zipped
-from containers import Maker
+import pytest
+from counting import count_if, count_same, needs
+from making import grouped, row_with, tarred, write_files, zipped
 from places import RELEASE, TOP
+from running import SECONDS, asked, command, ended, lines_of
+from tally import count
 
+pytestmark = [pytest.mark.archive, needs("click", "tqdm", "sqlalchemy", "jinja2", "matplotlib")]
 SEED = 3161
 ROWS = 5000  # of the store at random
 VECTORS = TOP / "tests" / "vectors"
-PACKAGES = ("click", "tqdm", "sqlalchemy", "jinja2", "matplotlib")
 BROWSERS = ("chromium", "chromium-browser", "google-chrome")
 HOSTILE = ["<b>&.p7s", "<script>alert(1)<.p7s", "\"'>&amp;.p7s"]  # of text, and the next ones of empty files: a page names the first five
 EMPTY_AND_HOSTILE = ["0 {{ 7 * 7 }}.p7s", "0 line\nbreak.p7s", "0 turned \u202egnp.p7s", "0" * 200 + ".p7s"]
@@ -127,6 +125,34 @@ def make_archive(folder):
     return {**{f"{folder}/{name}": one for name, one in files.items()}, **{f"{folder}/some.tar.gz!{name}": one for name, one in some.items()}}
 
 
+@pytest.fixture(scope="module")
+def reported(shared_home):
+    """An archive, its files as they were made, a store of it, and the page of that store."""
+    folder = shared_home / "archive"
+    files = make_archive(folder)
+    command(shared_home, "index", folder, "--jobs", 1, "--store", "index.db")
+    command(shared_home, "report", "--html", "page.html", "--store", "index.db")
+    text = (shared_home / "page.html").read_text(encoding="utf-8")
+    return SimpleNamespace(folder=folder, files=files, store=shared_home / "index.db", text=text)
+
+
+@pytest.fixture(scope="module")
+def files(reported):
+    return reported.files
+
+
+@pytest.fixture(scope="module")
+def page(reported):
+    return Page(reported.text)
+
+
+@pytest.fixture
+def text(home, reported):
+    """The text of the page, which is in the file page.html of the test's own folder."""
+    (home / "page.html").write_text(reported.text, encoding="utf-8")
+    return reported.text
+
+
 class Page(HTMLParser):
     """What a page says: its elements as a tree, the tables by their names, the cards, and what is not closed in its order."""
 
@@ -192,7 +218,7 @@ def number_of(text):
 
 # ---- judging what the page says
 
-def judge_kinds(page, files):
+def test_kinds(page, files):
     rows = []
     for kind, title in KINDS.items():
         some = [one for one in files.values() if one.kind == kind]
@@ -202,7 +228,7 @@ def judge_kinds(page, files):
     count_same("kinds", page.rows("kinds"), rows)
 
 
-def judge_states(page, files):
+def test_states(page, files):
     """The first numbers of the page are those of the signatures that fit, do not, and could not be judged."""
     states = Counter(one.state for one in files.values() if one.state)
     signatures, fit = sum(states.values()) - states[NONE], states["fits"]
@@ -228,38 +254,39 @@ def names_by(files, field):
     return grouped((getattr(files[name], field), name) for name in sorted(files, key=lambda it: it.split("!")) if getattr(files[name], field))
 
 
-def judge_refusals(page, files, names_of_reasons):
+def test_refusals(archive, page, files):
     by_reason = sorted(names_by(files, "reason").items())
     count_same("all reasons are there", [reason for reason, _ in by_reason], list(range(1, 20)))
     count_same("refusals", [[row[0], row[2]] for row in page.rows("reasons")], [[f"E{reason}", len(names)] for reason, names in by_reason])
     tips = {attributes["href"][1:]: attributes["title"] for tag, attributes in page.tags if tag == "a" and "title" in attributes}
-    count_same("names of reasons in tooltips", tips, {f"E{it}": names_of_reasons[it] for it, _ in by_reason})
+    count_same("names of reasons in tooltips", tips, {f"E{it}": archive.report.REASONS[it].name for it, _ in by_reason})
     for card, (reason, names) in zip((it for it in page.cards if re.match(r"E\d", it.title)), by_reason, strict=True):
         lines = lines_of_card([f"{name} at\xa0{files[name].at:,}" for name in names], "refusals")
         count_same(f"files of E{reason}", (card.title, card.files), (f"E{reason}: {len(names)} file{'s' if len(names) > 1 else ''}", lines))
 
 
-def judge_unreadable(page, folder):
+def test_unreadable(page, reported):
     came = {card.title: card.files for card in page.cards if not re.match(r"E\d|[0-9,]+ (file|signature)", card.title)}
-    wanted = {"File is not a zip file: 1 file": [f"{folder}/broken.zip"], "truncated header: 1 file": [f"{folder}/broken.tar"]}
+    wanted = {"File is not a zip file: 1 file": [f"{reported.folder}/broken.zip"], "truncated header: 1 file": [f"{reported.folder}/broken.tar"]}
     count_same("unreadable files", came, wanted)
 
 
-def judge_noted(home):
+@needs(tools=["openssl"])
+def test_noted(home, make):
     """What fits with a note is counted by itself, and the page names the command that lists it."""
     folder = home / "noted"
-    sealed = Maker(home / "noted maker").cms(b"signed", "-nodetach")
+    sealed = make.cms(b"signed", "-nodetach")
     write_files(folder, {"a.p7m": sealed, "a.zip": b"before" + zipped({"b.p7m": sealed}), "b.zip": zipped({"b.p7m": sealed})})
     command(home, "index", folder, "--store", "noted.db")
     page = judge_page("a page with notes", command(home, "report", "--html", "-", "--store", "noted.db"))
     count_same("what fits with a note", page.numbers("fit", "noted"), [3, 1])
     count_same("states with notes", {row[0]: row[2] for row in page.rows("states")}, {"fits": 2, "fits, with a note": 1})
     count_if("the command for notes", "check --noted" in page.texts["noted"], page.texts["noted"])
-    listed = [Path(it["file"]).name for it in map(json.loads, command(home, "check", "--noted", "--json", "--store", "noted.db").splitlines())]
+    listed = [Path(it["file"]).name for it in lines_of(home, "check", "--noted", "--store", "noted.db")]
     count_same("check --noted", listed, ["a.zip!b.p7m"])
 
 
-def judge_duplicates(page, files):
+def test_duplicates(page, files):
     groups = {digest: names for digest, names in names_by(files, "digest").items() if len(names) > 1}
     lengths = {digest: [len(files[name].octets) for name in names] for digest, names in groups.items()}
     spare = {digest: sum(some) - min(some) for digest, some in lengths.items()}
@@ -270,7 +297,7 @@ def judge_duplicates(page, files):
     count_same("the largest groups", [(it.title, it.code, it.files) for it in page.cards if re.match(r"[0-9,]+ file", it.title)], wanted)
 
 
-def judge_csv(page):
+def test_csv(page):
     """Each table is in the page as CSV too, with the same rows."""
     links = {attributes["download"]: attributes["href"] for tag, attributes in page.tags if tag == "a" and "download" in attributes}
     count_same("CSV for each table", sorted(links), sorted(f"{name}.csv" for name in page.tables))
@@ -280,7 +307,7 @@ def judge_csv(page):
         count_same(f"the table {name} as CSV", rows, [["" if cell == "–" else str(cell) for cell in row] for row in page.rows(name)])
 
 
-def judge_plots(page, files):
+def test_plots(page, files):
     years = Counter(one.year for one in files.values() if one.year)
     count_same("years", page.rows("years"), [list(it) for it in sorted(years.items())])
     powers = Counter(len(one.octets).bit_length() - 1 for one in files.values() if one.digest)
@@ -332,13 +359,19 @@ def judge_page(name, text):
     return page
 
 
+def test_page(reported):
+    judge_page("the page", reported.text)
+
+
+def test_empty_store(home):
+    (home / "nothing").mkdir()
+    command(home, "index", home / "nothing", "--store", "empty.db")
+    empty = judge_page("an empty store", command(home, "report", "--html", "-", "--store", "empty.db"))
+    numbers = empty.numbers("signatures", "fit", "differ", "unjudged")
+    count_same("an empty store", (numbers, "empty" in empty.texts, empty.cards), ([0] * 4, True, []))
+
+
 # ---- judging the summary of a store
-
-def row_with(archive, path, **values):
-    """Returns a row of a store that has these values."""
-    own = {"path": path, "size": 1, "changed": 1, "inode": 1, "signed_by": [], "times": []}
-    return {**dict.fromkeys(archive.tables.FILES.c.keys()), **own, **values}
-
 
 def random_rows(archive, random):
     """Returns rows of a store, as they could come from files."""
@@ -444,7 +477,7 @@ def differs_from(summary, rows, now):
     return [name for name, it in wanted.items() if came[name] != it] + ([] if is_first and len(came["algorithms"]) == 40 else ["algorithms"])
 
 
-def judge_random_store(home, archive):
+def test_random_store(home, archive):
     random = Random(SEED)
     rows = random_rows(archive, random)
     store = archive.store.Store(f"sqlite:///{home}/random.db", makes=True)
@@ -460,7 +493,7 @@ def judge_random_store(home, archive):
         count_same("a summary is of one moment", archive.summary.kinds_of(connection), before)
 
 
-def judge_words(archive):
+def test_words(archive):
     """Compares the names of the reasons with the documents, and tries what makes words and plots."""
     report = archive.report
     said = re.findall(r"^\| E(\d+) \| (\w+) \|", (TOP / "docs" / "FORMATS.md").read_text(), re.M)
@@ -487,7 +520,7 @@ def measured(text, width):
     return f'<!doctype html><body><iframe style="width: {width}px; height: 800px; border: 0" srcdoc="{escape(opened)}"></iframe></body>'
 
 
-def judge_screenshots(home, text):
+def test_screenshots(home, text, tally):
     browser = next(filter(None, map(shutil.which, BROWSERS)), None)
     if browser is None:
         return tally.skip("screenshots", "chromium is not installed")
@@ -512,15 +545,15 @@ def judge_screenshots(home, text):
         count_same(f"{width} wide, the page does not scroll sideways", found and found[1], f"{width} of {width}")
 
 
-def judge_failure(home, text):
+def test_failure(home, text, reported):
     """A report that fails leaves the page that is there."""
-    shutil.copy(home / "index.db", home / "broken.db")
+    shutil.copy(reported.store, home / "broken.db")
     asked(home / "broken.db", "ALTER TABLE places RENAME COLUMN kind TO no_kind")
     command(home, "report", "--html", "page.html", "--store", home / "broken.db", status=1)
     count_if("the page after a failure", (home / "page.html").read_text(encoding="utf-8") == text, "another page")
 
 
-def judge_places(home, text):
+def test_places(home, text, reported):
     """A disk that is full leaves the page that is there; a device is written to, and stays one; a link is followed."""
     few = {"preexec_fn": lambda: resource.setrlimit(resource.RLIMIT_FSIZE, (4096, 4096))}  # as a disk on which no more is left
     page, device, link, target = (home / it for it in ("page.html", "null", "linked.html", "target.html"))
@@ -533,34 +566,5 @@ def judge_places(home, text):
         ("a device", device, {}, 0, "", lambda: device.is_symlink() and Path("/dev/null").is_char_device()),
         ("a link", link, {}, 0, "", lambda: link.is_symlink() and target.read_text(encoding="utf-8").startswith("<!doctype")),
     ):
-        ran = ended(home, "report", "--store", home / "index.db", "--html", to, **how)
+        ran = ended(home, "report", "--store", reported.store, "--html", to, **how)
         count_if(name, (ran.returncode, ran.stderr.count("\n")) == (status, status) and said in ran.stderr and is_well(), ran)
-
-
-def judge_copy(home):
-    archive = modules_of(home, "opening", "plots", "reading", "report", "store", "summary", "tables", "texts")
-    folder = home / "archive"
-    files = make_archive(folder)
-    command(home, "index", folder, "--jobs", 1, "--store", "index.db")
-    command(home, "report", "--html", "page.html", "--store", "index.db")
-    text = (home / "page.html").read_text(encoding="utf-8")
-    page = judge_page("the page", text)
-    for judge in (judge_kinds, judge_states, judge_duplicates, judge_plots):
-        judge(page, files)
-    judge_csv(page)
-    judge_refusals(page, files, {number: it.name for number, it in archive.report.REASONS.items()})
-    judge_unreadable(page, folder)
-    (home / "nothing").mkdir()
-    command(home, "index", home / "nothing", "--store", "empty.db")
-    empty = judge_page("an empty store", command(home, "report", "--html", "-", "--store", "empty.db"))
-    numbers = empty.numbers("signatures", "fit", "differ", "unjudged")
-    count_same("an empty store", (numbers, "empty" in empty.texts, empty.cards), ([0] * 4, True, []))
-    judge_random_store(home, archive)
-    judge_noted(home)
-    judge_words(archive)
-    for judge in (judge_failure, judge_places, judge_screenshots):
-        judge(home, text)
-
-
-if __name__ == "__main__":
-    sys.exit(judged_in_a_copy(PACKAGES, judge_copy))

@@ -18,13 +18,6 @@ def tools():
     return found[-1].parent, ([] if os.getuid() else ["runuser", "-u", "postgres", "--"])
 
 
-def is_there(tally):
-    """Whether a server can be begun; if not, what needs it is skipped."""
-    if tools() is None:
-        tally.skip("PostgreSQL", "it or python3-psycopg2 is not installed")
-    return tools() is not None
-
-
 class Server:
     """A server that listens on a socket in its folder, and on a port of this machine if one is named."""
 

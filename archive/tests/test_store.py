@@ -1,7 +1,4 @@
-#!/usr/bin/env python3
 """Asks the command `cms-canon-archive` for what it stored of signatures, keeps its store for years, and has its surroundings misbehave.
-
-    /usr/bin/python3 archive/tests/store.py
 
 The store is one that release 0.4.0 wrote, one of a version to come, one that is read-only or in use, and a PostgreSQL server to which 30
 commands come at once. Files become FIFOs and links after they were listed, a tar has 100,000 members, memory is short, `rows` is killed half
@@ -25,23 +22,29 @@ import tarfile
 import time
 from collections import Counter
 from pathlib import Path
+from types import SimpleNamespace
 from unittest import mock
 
-import containers
-import postgresql_server
-from archive import AS_NOBODY, SECONDS, SETTLED, asked, begun, command, command_says, count, count_if, count_same, ended, environment_of
-from archive import found_in, is_line, judged_in_a_copy, lines_of, modules_of, ran, rows_in, store_of, tally, wait_until, write_files, zipped
-from containers import DOCUMENT, SIGNER_INFO, Maker, bare_token, last_of, place_of, signed_pdf, with_unsigned
-from places import ARCHIVE
+import cases
+import pytest
+from cases import DOCUMENT, SIGNER_INFO, bare_token, last_of, place_of, signed_pdf, with_unsigned
+from counting import count_if, count_same, is_line, needs, needs_server
 from elements import element, element_at, message
+from making import write_files, zipped
+from places import DATA
+from running import (
+    AS_NOBODY, SECONDS, SETTLED, asked, begun, command, command_says, ended, environment_of, found_in, lines_of, ran, rows_in, store_of, wait_until,
+)
+from tally import count
 
+pytestmark = [pytest.mark.archive, needs("click", "tqdm", "sqlalchemy", "cryptography", "jinja2", "matplotlib", tools=["openssl"])]
 AT_ONCE = 30
 COUNTED = 50_000  # files of an archive of which each is counted
 MOST_OF_A_KIND = 64 << 10  # octets of those of them that are there many times
 MEMBERS = 100_000
 MOST_MEMORY = 200 << 20  # octets that the command may have in memory at once, each of its processes
 SMALL_MEMORY = 300 << 20  # octets of address space that a process gets: too few for its modules and a file of 250 MiB
-FIRST_STORE, SECOND_STORE = ((ARCHIVE / "tests" / "data" / f"store-{it}.sql").read_text() for it in ("0.4.0", "0.9.0"))
+FIRST_STORE, SECOND_STORE = ((DATA / f"store-{it}.sql").read_text() for it in ("0.4.0", "0.9.0"))
 FIRST_STORE_SAYS = {  # the class and the kind of each place
     ("a.zip", "r.txt"): ("refused", None), ("a.zip", ""): ("container", None), ("cut.p7s", ""): ("refused", None), ("gone", ""): ("unreadable", None),
     ("doc.bin.p7s", ""): ("message", "signature"), ("doc.tst", ""): ("message", "token"), ("q.tsq", ""): ("message", "request"),
@@ -66,7 +69,29 @@ def make_files(make):
     }
 
 
-def judge_questions(home, archive, folder, place):
+@pytest.fixture(scope="module")
+def made(shared_home, make):
+    """A folder of messages, its files, the place of the signature in its PDF, and a store of it."""
+    files = make_files(make)
+    folder = write_files(shared_home / "files", files)
+    time.sleep(SETTLED)
+    command(shared_home, "index", folder, "--store", "asked.db")
+    return SimpleNamespace(folder=folder, files=files, place=place_of(files["one.pdf"]), store=shared_home / "asked.db")
+
+
+@pytest.fixture(scope="module")
+def folder(made):
+    return made.folder
+
+
+@pytest.fixture
+def place(home, made):
+    """The place of the signature in the PDF. The store is in the test's own folder."""
+    shutil.copy(made.store, home / "asked.db")
+    return made.place
+
+
+def test_questions(home, archive, folder, place):
     def said_of(words, *columns, status=0):
         """Returns what the command says in these columns; only the name of a path."""
         lines = lines_of(home, *words.split(), "--store", "asked.db", status=status)
@@ -92,7 +117,7 @@ def judge_questions(home, archive, folder, place):
     count_same("cells of CSV", cells, ["'=1+1", "'+1", "'-1", "'@a", "a\\u202e", "", "5"])
 
 
-def judge_files(home, folder, files, place):
+def test_files(home, folder, made, place):
     """`show` and `convert` take whatever a message is kept in; no file is written over."""
     shown = command(home, "show", folder / "one.pdf")
     count_if("show", shown.startswith(f"{folder}/one.pdf!{place}\nkind: signed-data\n"), shown[:200])
@@ -102,7 +127,7 @@ def judge_files(home, folder, files, place):
     count_same("show --json, no message", lines_of(home, "show", folder / "text.txt", status=1), [])
     exported = lines_of(home, "export", "--to", home / "exported", "--store", "asked.db")
     count_same("export --json", [it["why_not"] for it in exported], [None] * 8)
-    count_same("index --json", lines_of(home, "index", folder, "--store", "asked.db"), [{"read": 0, "unchanged": len(files), "gone": 0}])
+    count_same("index --json", lines_of(home, "index", folder, "--store", "asked.db"), [{"read": 0, "unchanged": len(made.files), "gone": 0}])
     to = home / "converted"
     command(home, "convert", folder / "one.pdf", folder / "=formula\u202e.p7s", folder / "doc.p7s", "--to", to)
     count_same("convert", {it.name for it in to.iterdir()}, {f"one.pdf!{place}", "=formula\u202e.p7s", "doc.p7s"})
@@ -118,7 +143,7 @@ def judge_files(home, folder, files, place):
     count_if("completions", "complete -o nosort" in completed.stdout, completed)
 
 
-def judge_verdicts(home, folder):
+def test_verdicts(home, folder):
     command(home, "index", folder, "--store", "verified.db")
     command(home, "index", folder, "--store", "verified.db", "--verify")
     count_same("verdicts", {row.verdict for row in store_of(home / "verified.db") if row.state}, {"right"})
@@ -128,7 +153,8 @@ def judge_verdicts(home, folder):
     count_if("--anew", ", 0 unchanged" in said, said)
 
 
-def judge_verify_store(home):
+@pytest.mark.usefixtures("place")
+def test_verify_store(home):
     command(home, "verify-store", "--store", "asked.db")
     command(home, "verify-store", "--sample", 3, "--store", "asked.db")
     shutil.copy(home / "asked.db", home / "altered.db")
@@ -164,7 +190,7 @@ def requests_of(make):
     }
 
 
-def judge_not_fitting(home, archive, make):
+def test_not_fitting(home, archive, make):
     """What has no signature, or no digest that was compared, is never said to fit, wherever it lies."""
     folder = home / "not fitting"
     for name, (octets, beside) in requests_of(make).items():
@@ -173,7 +199,7 @@ def judge_not_fitting(home, archive, make):
     states = [row["state"] for row in rows_of(archive, folder, "bare.tst", bare_token(make, DOCUMENT), bare=DOCUMENT).values()]
     count_same("a token without signed attributes", states, ["no digest to compare"])
     for length in (1000, 100_000):
-        elsewhere = make.cms(bytes(length), "-econtent_type", containers.TST_INFO)
+        elsewhere = make.cms(bytes(length), "-econtent_type", cases.TST_INFO)
         states = []
         for octets in (b"1" * length, bytes(length)):
             (row,) = rows_of(archive, folder, "elsewhere.tst", elsewhere, elsewhere=octets).values()
@@ -182,10 +208,9 @@ def judge_not_fitting(home, archive, make):
         count_same(f"a message over a TSTInfo elsewhere of {length:,} octets", states, wanted)
     alone = rows_of(archive, folder, "alone.p7s", make.cms(DOCUMENT, "-noattr"), verifies=True)[""]
     count_same("a verdict without the content", (alone["state"], alone["verdict"]), ("content not found", "unknown"))
-    judge_unsigned_attributes(home, archive, make)
 
 
-def judge_unsigned_attributes(home, archive, make):
+def test_unsigned_attributes(home, archive, make):
     """A token in an unsigned attribute is judged as one by itself, and a countersignature by the signature that it covers."""
     folder = home / "not fitting"
     der = make.cms(DOCUMENT, "-nodetach")
@@ -198,7 +223,7 @@ def judge_unsigned_attributes(home, archive, make):
         *((bare_token(make, signature), "no digest to compare"), (bare_token(make, b"other"), "does not fit"), (b"", "no digest to compare")),
     )
     for number, (token, wanted) in enumerate(tokens):
-        row = rows_of(archive, folder, "token.p7m", with_unsigned(der, {containers.TIME_STAMP: token or element(0x30, b"")}))[""]
+        row = rows_of(archive, folder, "token.p7m", with_unsigned(der, {cases.TIME_STAMP: token or element(0x30, b"")}))[""]
         note = "token 0/0: does not fit" if wanted == "does not fit" else ""
         count_same(f"a token in an attribute, {number}", (row["times"][0]["state"], row["state"], row["note"]), (wanted, "fits", note))
     counters = (
@@ -206,16 +231,16 @@ def judge_unsigned_attributes(home, archive, make):
         (last_of(make.cms(signature, "-noattr"), SIGNER_INFO), "no digest to compare", "countersigner 0.0: no digest to compare"),
     )
     for octets, *wanted in counters:
-        row = rows_of(archive, folder, "counter.p7m", with_unsigned(der, {containers.COUNTERSIGNATURE: octets}))[""]
+        row = rows_of(archive, folder, "counter.p7m", with_unsigned(der, {cases.COUNTERSIGNATURE: octets}))[""]
         count_same(f"a countersigner, {wanted[0]}", [row["state"], row["note"]], wanted)
     (folder / "counter.p7m").unlink()
-    rows_of(archive, home / "wrong token", "token.p7m", with_unsigned(der, {containers.TIME_STAMP: make.token(b"other")}))
+    rows_of(archive, home / "wrong token", "token.p7m", with_unsigned(der, {cases.TIME_STAMP: make.token(b"other")}))
     command(home, "index", home / "wrong token", "--store", "token.db")
     came = lines_of(home, "check", "--store", "token.db", status=1)
     count_same("check of a token that does not fit", [(it["state"], it["wrong_times"]) for it in came], [("fits", 1)])
 
 
-def judge_large_beside(home, archive, make):
+def test_large_beside(home, archive, make):
     """Of a document that is too large nothing is read; a message with content of its own needs none of it."""
     folder = home / "large beside"
     said = {}
@@ -230,7 +255,7 @@ def judge_large_beside(home, archive, make):
 
 # ---- what changes
 
-def judge_neighbours(home, archive, make):
+def test_neighbours(home, make):
     """A signature is judged again if the document beside it changed, came or went."""
     large, packed = bytes(5 << 20), gzip.compress(make.cms(DOCUMENT))
     for name, folder, files, documents, wanted in (
@@ -241,11 +266,18 @@ def judge_neighbours(home, archive, make):
         ("a large document", "large", {"doc.p7s": make.cms(large)}, (large, large + b"!", large), [("fits", 2), ("does not fit", 2), ("fits", 2)]),
     ):
         count_same(f"{name} that changes", list(states_with(home, write_files(home / folder, files), f"{folder}.db", documents)), wanted)
+
+
+def test_beside_packed(archive):
+    """What lies beside a packed signature is found by the name of that."""
     names = {"doc.p7s.gz": "doc", "doc.P7S.xz.GZ": "doc", "doc.tst": "doc", "doc.gz": "", "doc.p7s.tgz": "", ".p7s.gz": "", "doc.p7s.zip": ""}
     came = {name: archive.reading.wanted_beside(f"/a/{name}") for name in names}
     count_same("what lies beside a packed signature", came, {name: wanted and f"/a/{wanted}" for name, wanted in names.items()})
-    # What changed within two seconds of being read is read again, since the clock of a file system may not tell it from a later change.
-    folder = home / "changing"
+
+
+def test_changed_just_before(home, archive, make):
+    """What changed within two seconds of being read is read again, since the clock of a file system may not tell it from a later change."""
+    folder = write_files(home / "changing", {"doc.p7s": make.cms(DOCUMENT)})
     entry = archive.walking.entry_of(str(folder / "doc.p7s"))
     settled = {}
     for name, changed, beside in (("now", time.time_ns(), 0), ("long ago", 1, 1), ("the content now", 1, time.time_ns())):
@@ -293,10 +325,10 @@ def of_first(store):
     return {(Path(row.path).name, row.member): (row.what, row.kind) for row in store_of(store) if row.path.startswith("/f/")}
 
 
-def judge_migration(home, folder):
+def test_old_stores(home, folder):
     """A store of 0.4.0 gets the tables of now, with its rows; a file that is indexed again is judged. An older command refuses a newer store."""
     old = home / "old.db"
-    for name, script in (("old.db", FIRST_STORE), ("old asked.db", FIRST_STORE), ("old locked.db", FIRST_STORE), ("second.db", SECOND_STORE)):
+    for name, script in (("old.db", FIRST_STORE), ("old asked.db", FIRST_STORE), ("second.db", SECOND_STORE)):
         with sqlite3.connect(home / name) as connection:
             connection.executescript(script)
     came = {Path(it["file"]).name: it["state"] for it in lines_of(home, "check", "--store", "old asked.db")}
@@ -311,16 +343,16 @@ def judge_migration(home, folder):
     said = command_says(home, "check", "--store", old, status=1)
     count_same("a version that is no number", said, "Error: the store says a version of its tables that is no number\n")
     judge_second(home, folder, f"sqlite:///{home}/second.db")
-    judge_read_only(home, "old locked.db")
 
 
-def judge_read_only(home, old):
+@pytest.mark.usefixtures("place")
+def test_read_only(home):
     """A store that cannot be written to, nor its folder, can be asked everything, also by another user."""
-    folder = write_files(home / "medium", {it: (home / it).read_bytes() for it in ("asked.db", old)})
-    home.chmod(0o755)
-    for name in ("asked.db", old):
-        (folder / name).chmod(0o444)
-    folder.chmod(0o555)
+    folder, old = write_files(home / "medium", {"asked.db": (home / "asked.db").read_bytes()}), "old locked.db"
+    with sqlite3.connect(folder / old) as connection:
+        connection.executescript(FIRST_STORE)
+    for path, mode in ((folder / "asked.db", 0o444), (folder / old, 0o444), (folder, 0o555)):
+        path.chmod(mode)
     for words in ("check --all", "signers", "algorithms", "times", "duplicates", "refusals", "changed", "report --html -"):
         texts = [ran(home, *words.split(), "--store", store, status=words == "check --all", **how).stdout
                  for store, how in ((folder / "asked.db", AS_NOBODY), ("asked.db", {}))]
@@ -331,7 +363,8 @@ def judge_read_only(home, old):
     folder.chmod(0o755)
 
 
-def judge_in_use(home, folder):
+@pytest.mark.usefixtures("place")
+def test_in_use(home, folder):
     """A command waits for a store that is in use as long as it is told to, and then says so in a line."""
     with sqlite3.connect(home / "asked.db", isolation_level=None) as connection:
         connection.execute("BEGIN IMMEDIATE")
@@ -345,7 +378,7 @@ def judge_in_use(home, folder):
     count_same("a store that was in use", waiting.returncode, 0)
 
 
-def judge_secrets(home, folder):
+def test_secrets(home, folder):
     """No error and no line for a shell has the password of a store; a store in memory is refused."""
     secret = "hunter2"
     for name in ("postgresql://me:..@localhost:1/name", "postgresql://me:..@host:port/name", "none://me:..@host/name", "a..://["):
@@ -358,38 +391,39 @@ def judge_secrets(home, folder):
         count_if(f"the store {name}", "would be lost" in said, said)
 
 
-def judge_postgresql(home, folder):
-    """A store of 0.4.0 on PostgreSQL gets the tables of now. Many commands begin at once on a new one, and all of them end well."""
-    if not postgresql_server.is_there(tally):
-        return
+@needs_server
+def test_old_stores_on_postgresql(home, folder, server):
     import sqlalchemy
-    with postgresql_server.server() as server:
-        url = server.make_database("migrated")
-        with sqlite3.connect(":memory:") as old:
-            old.executescript(FIRST_STORE)
-            rows = [(*row[:9], None if row[9] is None else bool(row[9]), *row[10:]) for row in old.execute("SELECT * FROM files")]
-        engine = sqlalchemy.create_engine(url, poolclass=sqlalchemy.pool.NullPool)
-        with engine.begin() as connection:
-            connection.exec_driver_sql(FIRST_STORE.partition("INSERT")[0])
-            connection.exec_driver_sql(f"INSERT INTO files VALUES ({', '.join(['%s'] * 15)})", rows)
-        command(home, "index", folder, "--store", url)
-        count_same("a store of 0.4.0 on PostgreSQL", of_first(url), FIRST_STORE_SAYS)
-        url = server.make_database("second")
-        for statement in filter(str.strip, SECOND_STORE.split(";\n")):
-            server.ask(statement.replace("%", "%%"), database="second")
-        judge_second(home, folder, url)
-        url = server.url()
-        started = [begun(home, "index", folder, "--store", url, "--jobs", 1, stderr=subprocess.PIPE) for _ in range(AT_ONCE)]
-        came = [(it.communicate(timeout=SECONDS)[1], it.returncode) for it in started]
-        count(f"{AT_ONCE} at once on PostgreSQL", [said[-300:] for said, status in came if status][:2])
-        rows, own = ([(row.path, row.member, row.state) for row in store_of(it)] for it in (url, home / "asked.db"))
-        count_same("what they stored", rows, own)
-        judge_values(home, folder, server.make_database("values"))
+
+    url = server.make_database("migrated")
+    with sqlite3.connect(":memory:") as old:
+        old.executescript(FIRST_STORE)
+        rows = [(*row[:9], None if row[9] is None else bool(row[9]), *row[10:]) for row in old.execute("SELECT * FROM files")]
+    with sqlalchemy.create_engine(url, poolclass=sqlalchemy.pool.NullPool).begin() as connection:
+        connection.exec_driver_sql(FIRST_STORE.partition("INSERT")[0])
+        connection.exec_driver_sql(f"INSERT INTO files VALUES ({', '.join(['%s'] * 15)})", rows)
+    command(home, "index", folder, "--store", url)
+    count_same("a store of 0.4.0 on PostgreSQL", of_first(url), FIRST_STORE_SAYS)
+    url = server.make_database("second")
+    for statement in filter(str.strip, SECOND_STORE.split(";\n")):
+        server.ask(statement.replace("%", "%%"), database="second")
+    judge_second(home, folder, url)
+
+
+@needs_server
+def test_at_once(home, folder, made, server):
+    """Many commands begin at once on a new store on PostgreSQL, and all of them end well."""
+    url = server.make_database("at_once")
+    started = [begun(home, "index", folder, "--store", url, "--jobs", 1, stderr=subprocess.PIPE) for _ in range(AT_ONCE)]
+    came = [(it.communicate(timeout=SECONDS)[1], it.returncode) for it in started]
+    count(f"{AT_ONCE} at once on PostgreSQL", [said[-300:] for said, status in came if status][:2])
+    rows, own = ([(row.path, row.member, row.state) for row in store_of(it)] for it in (url, made.store))
+    count_same("what they stored", rows, own)
 
 
 # ---- files that change what they are
 
-def judge_replaced(home, archive, make):
+def test_replaced(home, archive, make):
     """A file that is replaced by a FIFO or a link after it was listed is neither waited for nor followed, by `index` and by `export`."""
     folder = write_files(home / "replaced", dict.fromkeys(("fifo.p7s", "link.p7s"), make.cms(DOCUMENT, "-nodetach")))
     command(home, "index", folder, "--store", "replaced.db")
@@ -406,7 +440,7 @@ def judge_replaced(home, archive, make):
     count_same("files that are no files any more", said, "0 files read, 0 unchanged, 2 gone\n")
 
 
-def judge_members(home):
+def test_members(home):
     """The rows of very many members are stored at once and take no memory. Of a command that is killed meanwhile there is none, or all."""
     folder = home / "members"
     folder.mkdir()
@@ -432,7 +466,7 @@ def judge_members(home):
     print(f"the peak of memory for {MEMBERS:,} members: {memory / (1 << 20):.0f} MiB")
 
 
-def judge_want_of_memory(home, make):
+def test_want_of_memory(home, make):
     """Want of memory ends a file, and not the command."""
     folder = write_files(home / "memory", {"large.pdf": b"%PDF-1.7\n", **dict.fromkeys(("doc.p7s", "zz.p7s"), make.cms(DOCUMENT, "-nodetach"))})
     os.truncate(folder / "large.pdf", 250 << 20)
@@ -443,14 +477,14 @@ def judge_want_of_memory(home, make):
     count_if("want of memory", (done.returncode, rows) == (0, wanted), rows, done)
 
 
-def judge_many(home, make):
+def test_many(home, make):
     """An archive of very many files, with hostile ones among them, is counted as it was made."""
     folder = home / "counted"
     makers = ("files_of_their_own", "other_files", "mails", "pdfs", "containers", "jars", "packed")
-    cases = {f"{it}/{name}": case for it in makers for name, case in getattr(containers, it)(make).items()}
-    hostile = {f"hostile/{name}": containers.Case(octets, "") for name, octets in containers.hostile(1).items() if name != "names.zip"}
+    whole = {f"{it}/{name}": case for it in makers for name, case in getattr(cases, it)(make).items()}
+    hostile = {f"hostile/{name}": cases.Case(octets, "") for name, octets in cases.hostile(1).items() if name != "names.zip"}
     some = [
-        (containers.write(folder / "some", name, case), case) for name, case in cases.items()
+        (cases.write(folder / "some", name, case), case) for name, case in whole.items()
         if "attached" not in name and all(len(it) <= MOST_OF_A_KIND for it in (case.octets, *case.beside.values()))
     ]
     expected = Counter()  # how many places of each class and state there have to be, of very many files that are links to some
@@ -460,10 +494,10 @@ def judge_many(home, make):
         there.mkdir(parents=True)
         for name in (path.name, *case.beside):
             os.link(path.parent / name, there / name)
-        expected.update(containers.wanted_of(case).values())
+        expected.update(cases.wanted_of(case).values())
         expected.update("not a candidate" for _ in case.beside)
     for name, case in hostile.items():
-        containers.write(folder / "many", name, case)
+        cases.write(folder / "many", name, case)
 
     began = time.monotonic()
     command(home, "index", folder / "many", "--store", "counted.db", "--jobs", 3)
@@ -479,7 +513,7 @@ def load(home, lines, url):
     return done.returncode, done.stderr
 
 
-def judge_lines(home, folder):
+def test_lines(home, folder):
     """`load` says if `rows` did not come to its end, and leaves out lines that are none, whatever they are made of."""
     written = command(home, "rows", folder)
     lines = written.splitlines(True)
@@ -495,7 +529,7 @@ def judge_lines(home, folder):
         count_if(f"a line that begins {bad[:12]}", is_said and rows_in(home / f"bad {number}.db") >= whole - 2, status, said[-300:])
 
 
-def judge_values(home, folder, url):
+def test_values(home, folder, kind, new_store):
     """`load` leaves out a line with a value that a database refuses, and stores the others."""
     lines = command(home, "rows", folder).splitlines()
     signed = next(it for it in map(json.loads, lines) if it.get("member") == "" and it.get("signed_by"))
@@ -508,13 +542,14 @@ def judge_values(home, folder, url):
     }
     for number, (name, value) in enumerate(values.items()):
         more = [{**signed, "path": "/bad/after"}, {**signed, "path": f"/bad/{number}", **value}, {"end": len(lines) + 1}]
-        status, said = load(home, "".join(f"{line}\n" for line in [*lines[:-1], *map(json.dumps, more)]), url)
+        status, said = load(home, "".join(f"{line}\n" for line in [*lines[:-1], *map(json.dumps, more)]), new_store)
         wanted = f"Error: left out 1 line not of `rows`, the first is line {len(lines) + 1}, and the file after each\n"
-        left = [it["file"] for it in lines_of(home, "signers", "--store", url) if it["file"].startswith("/bad/")]
-        count_same(f"a line with {name}, {url.partition(':')[0]}", (status, said, left), (1, wanted, ["/bad/after"]))
+        left = [it["file"] for it in lines_of(home, "signers", "--store", new_store) if it["file"].startswith("/bad/")]
+        count_same(f"a line with {name}, {kind}", (status, said, left), (1, wanted, ["/bad/after"]))
 
 
-def judge_names(home, folder, make):
+@pytest.mark.usefixtures("place")
+def test_names(home, folder, make):
     """Names of which each character has four octets are copied, a FIFO is not waited for, and JSON turns no direction of writing."""
     long = "\U0001f600" * 62 + ".p7m"
     names = write_files(home / "names", {long: make.cms(DOCUMENT, "-nodetach")})
@@ -528,30 +563,3 @@ def judge_names(home, folder, make):
     said = command(home, "check", "--all", "--json", "--store", "asked.db", status=1)
     names_of = [Path(json.loads(line)["file"]).name for line in said.splitlines()]
     count_if("JSON of hostile names", "\u202e" not in said and "=formula\u202e.p7s" in names_of, said[-300:])
-
-
-def judge_copy(home):
-    archive = modules_of(home, "command", "reading", "walking")
-    make = Maker(home / "made")
-    files = make_files(make)
-    folder, place = write_files(home / "files", files), place_of(files["one.pdf"])
-    time.sleep(SETTLED)
-    command(home, "index", folder, "--store", "asked.db")
-    judge_questions(home, archive, folder, place)
-    judge_files(home, folder, files, place)
-    judge_verify_store(home)
-    judge_names(home, folder, make)
-    for judge in (judge_not_fitting, judge_large_beside, judge_neighbours, judge_replaced):
-        judge(home, archive, make)
-    for judge in (judge_verdicts, judge_migration, judge_in_use, judge_secrets, judge_lines):
-        judge(home, folder)
-    judge_values(home, folder, f"sqlite:///{home}/values.db")
-    judge_members(home)
-    judge_want_of_memory(home, make)
-    judge_many(home, make)
-    judge_postgresql(home, folder)
-
-
-if __name__ == "__main__":
-    packages = ("click", "tqdm", "sqlalchemy", "cryptography", "jinja2", "matplotlib")
-    sys.exit(judged_in_a_copy(packages, judge_copy) if tally.has("openssl") else tally.end(may_skip_all=True))

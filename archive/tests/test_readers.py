@@ -1,15 +1,12 @@
-#!/usr/bin/env python3
 """Compares what `cms_canon_archive` says of containers that are out of the ordinary with what other programs show of them.
 
-    /usr/bin/python3 archive/tests/readers.py [CONTAINERS [SEED]]
-
-A generator makes so many containers of each kind (1,500 if no number is named), most of them with something odd: a member twice, hidden,
-linked, cut, renamed, or with octets changed at random. If it is said of a message that it fits, and no note says that readers differ, then no
-reader may show other octets under a name that the message covers. The readers are unzip, bsdtar (of a file and of a pipe), GNU tar, Java's JarFile
-(also as jarsigner has it, which verifies) and ZipInputStream, and Python's zipfile and tarfile; what is missing is skipped by its name. There are also containers that were
+A generator makes containers of each kind, most of them with something odd: a member twice, hidden, linked, cut, renamed, or with octets
+changed at random. If it is said of a message that it fits, and no note says that readers differ, then no reader may show other octets under
+a name that the message covers. The readers are unzip, bsdtar (of a file and of a pipe), GNU tar, Java's JarFile (also as jarsigner has it, which
+verifies) and ZipInputStream, and Python's zipfile and tarfile; what is missing is skipped by its name. There are also containers that were
 each made by hand for one such trick: each has to be noted.
 
-Another kind of container is one more `Kind`: its generator, and the readers of it.
+Another kind of container is one more of KINDS: its generator, and the readers of it.
 """
 
 import base64
@@ -28,25 +25,30 @@ import struct
 import subprocess
 import sys
 import tarfile
-import time
 import unicodedata
 import zipfile
 import zlib
 from collections import Counter
+from contextlib import suppress
 from dataclasses import dataclass, field, replace
 from pathlib import Path
 from random import Random
 from typing import Callable, Dict, Iterable, List, NamedTuple, Optional, Set, Tuple
 
-from archive import SECONDS, count, count_if, count_same, ended, judged_in_a_copy, modules_of, ran, tally, write_files
-from containers import DOCUMENT, FITS, Maker, made_jar, manifest, said_of, section, unzipped
-from places import ARCHIVE
+import pytest
+from cases import DOCUMENT, FITS, Maker, made_jar, manifest, said_in, said_of, section, unzipped
+from counting import count_if, count_same, needs
+from making import write_files
+from places import DATA
+from running import SECONDS, ended, ran
+from tally import count
 
+pytestmark = [pytest.mark.archive, needs("cryptography", "click", "tqdm", "sqlalchemy", tools=["openssl"])]
 CONTAINERS = 1500  # of each kind
 SEED = 7310
 MOST_BY_JARSIGNER = 40  # JARs, for each of which it takes a second
 OTHER = b"Not the document that was signed."
-JAVA = ARCHIVE / "tests" / "data" / "Readers.java"
+JAVA = DATA / "Readers.java"
 
 Shown = Dict[str, Set[bytes]]
 """The digests of what a reader shows under each name."""
@@ -62,14 +64,6 @@ class Container(NamedTuple):
     covers: Dict[str, Dict[str, bytes]]
     covers_all: bool = False
     """Whether a message has to cover each file that a reader shows, if it fits."""
-
-
-class Kind(NamedTuple):
-    """A kind of container: the end of the names of its files, what makes one at random, and what reads it."""
-
-    ending: str
-    make: Callable[[Random], Container]
-    readers: Dict[str, Read]
 
 
 def digest(octets: bytes) -> bytes:
@@ -108,15 +102,10 @@ def by_zipfile(folder: Path, paths: List[Path]) -> Dict[str, Shown]:
 
 def _shown_by_zipfile(path: Path) -> Shown:
     shown: Shown = {}
-    try:
-        with zipfile.ZipFile(path) as file:
-            for info in (it for it in file.infolist() if not it.is_dir()):
-                try:
-                    shown.setdefault(info.filename, set()).add(digest(file.read(info)))
-                except Exception:  # of a member that it does not show
-                    pass
-    except Exception:
-        pass
+    with suppress(Exception), zipfile.ZipFile(path) as file:
+        for info in (it for it in file.infolist() if not it.is_dir()):
+            with suppress(Exception):  # of a member that it does not show
+                shown.setdefault(info.filename, set()).add(digest(file.read(info)))
     return shown
 
 
@@ -126,16 +115,11 @@ def by_tarfile(folder: Path, paths: List[Path]) -> Dict[str, Shown]:
 
 def _shown_by_tarfile(folder: Path, path: Path) -> Shown:
     shown: Shown = {}
-    try:
-        with tarfile.open(path, "r:") as file:
-            for name in set(file.getnames()):
-                try:
-                    if (octets := file.extractfile(name)) is not None:
-                        shown[os.path.normpath(name)] = {digest(octets.read())}
-                except Exception:
-                    pass
-    except Exception:
-        pass
+    with suppress(Exception), tarfile.open(path, "r:") as file:
+        for name in set(file.getnames()):
+            with suppress(Exception):
+                if (octets := file.extractfile(name)) is not None:
+                    shown[os.path.normpath(name)] = {digest(octets.read())}
     return shown
 
 
@@ -145,8 +129,7 @@ def by_java(readers: str) -> Read:
     def read(folder: Path, paths: List[Path]) -> Dict[str, Shown]:
         names = "".join(f"{it}\n" for it in paths).encode()
         ran = subprocess.run(["java", JAVA, readers], input=names, capture_output=True, timeout=SECONDS)
-        if ran.returncode:
-            raise SystemExit(f"java: {ran.stderr.decode()[-800:]}")
+        assert ran.returncode == 0, f"java: {ran.stderr.decode()[-800:]}"
         shown: Dict[str, Shown] = {it.name: {} for it in paths}
         for parts in (line.split("\t") for line in ran.stdout.decode().splitlines()):
             if len(parts) == 3:
@@ -434,7 +417,7 @@ def zip_kinds(make: Maker) -> Dict[str, Callable[[Random], Container]]:
     }
 
 
-def zip_readers() -> Dict[str, Read]:
+def zip_readers(tally) -> Dict[str, Read]:
     readers: Dict[str, Read] = {"zipfile": by_zipfile}
     if tally.has("unzip"):
         readers["unzip"] = by_command("unzip", "-o", "-qq", "FILE")
@@ -444,6 +427,10 @@ def zip_readers() -> Dict[str, Read]:
     if tally.has("java"):
         readers.update({name: by_java(name) for name in ("JarFile", "verifying JarFile", "ZipInputStream")})
     return readers
+
+
+def jar_readers(tally) -> Dict[str, Read]:
+    return {**zip_readers(tally), **({"jarsigner": by_jarsigner} if tally.has("jarsigner") else {})}
 
 
 # ---- tars, written header by header
@@ -621,7 +608,7 @@ def by_extractall(folder: Path, paths: List[Path]) -> Dict[str, Shown]:
     return by_command(sys.executable, "-c", code, "FILE")(folder, paths)
 
 
-def tar_readers() -> Dict[str, Read]:
+def tar_readers(tally) -> Dict[str, Read]:
     readers: Dict[str, Read] = {"tarfile": by_tarfile, "tarfile, unpacking": by_extractall}
     if tally.has("tar"):
         readers["GNU tar"] = by_command("tar", "-xf", "FILE")
@@ -852,11 +839,14 @@ def in_64(files: Dict[str, bytes]) -> bytes:
     return whole.getvalue()
 
 
-def judge_tricks(archive, folder: Path, tricks: Dict[str, Trick]) -> None:
+TRICKS_BY_HAND = (zip_tricks, tar_tricks, asic_tricks, packed_tricks)
+
+
+@pytest.mark.parametrize("tricks", TRICKS_BY_HAND)
+def test_tricks(archive, home, make, tricks):
     """Each container in which readers differ has a note that says so, and none in which they do not."""
-    write_files(folder, {name: it.octets for name, it in tricks.items()})
-    for name, it in tricks.items():
-        came, facts = said_of(archive, folder / name)
+    for name, it in tricks(make).items():
+        came, facts = said_in(archive, home, name, it.octets)
         note = facts[it.place].note if it.place in facts else None
         is_so = came.get(it.place) == it.state and note is not None and (it.words in note if it.words else not note)
         count_if(f"made by hand: {name}", is_so, came, note, "wanted", it.state, it.words)
@@ -871,10 +861,10 @@ def said_to_fit(archive, path: Path) -> Set[str]:
     return {where for where, it in facts.items() if it.state is not None and it.state.value == FITS and not it.note}
 
 
-def judge_check(home: Path, folder: Path, tricks: Dict[str, Trick]) -> None:
+def test_check(home, make):
     """What readers differ on is listed by `check`, and what they do not is not."""
-    some = {name: it for name, it in tricks.items() if it.state == FITS}
-    listed = lines_of_check(home, write_files(folder, {name: it.octets for name, it in some.items()}))
+    some = {name: it for tricks in TRICKS_BY_HAND for name, it in tricks(make).items() if it.state == FITS}
+    listed = lines_of_check(home, write_files(home / "by hand", {name: it.octets for name, it in some.items()}))
     wanted = sorted(f"{name}!{it.place}" for name, it in some.items() if it.words.startswith(("readers differ", "on some", "it lies", "what follows")))
     count_same("what `check` lists of what was made by hand", sorted(it for it in listed if it in {f"{name}!{one.place}" for name, one in some.items()}), wanted)
 
@@ -905,45 +895,27 @@ def keep(path: Path) -> None:
         shutil.copy(path, Path(folder) / path.name)
 
 
-def judge_kind(archive, folder: Path, name: str, kind: Kind, random: Random, number: int) -> None:
+KINDS = {  # what makes each kind of container, what reads it, and a share of how many there are
+    **{name: (zip_kinds, jar_readers if name == "jar" else zip_readers, 5) for name in ("zip", "attached.zip", "asics", "asice", "jar")},
+    "tar": (tar_kinds, tar_readers, 1),
+}
+
+
+@pytest.mark.parametrize("name", KINDS)
+def test_kind(archive, home, make, tally, name):
     """No reader shows other octets than those that are said to fit."""
-    begin, containers, fitting = time.monotonic(), {}, {}
-    folder.mkdir(parents=True)
-    for it in range(number):
-        containers[f"{it}.{kind.ending}"] = kind.make(random)
-    for file, container in containers.items():
-        (folder / file).write_bytes(container.octets)
-        fitting[file] = said_to_fit(archive, folder / file)
-    paths = [folder / file for file, places in fitting.items() if places]
+    kinds, readers, share = KINDS[name]
+    random, made, number = Random(f"{SEED} {name}"), kinds(make)[name], CONTAINERS // share
+    containers = {f"{it}.{name.rpartition('.')[2]}": made(random) for it in range(number)}
+    write_files(home, {file: it.octets for file, it in containers.items()})
+    fitting = {file: said_to_fit(archive, home / file) for file in containers}
+    paths = [home / file for file, places in fitting.items() if places]
     wrong = []
-    for reader, read in kind.readers.items():
-        for file, shown in read(folder / "unpacked", paths).items():
+    for reader, read in readers(tally).items():
+        for file, shown in read(home / "unpacked", paths).items():
             if names := differing(containers[file], fitting[file], shown):
                 wrong.append(f"{reader} of {file} ({containers[file].how}): {names[:3]}")
-                keep(folder / file)
+                keep(home / file)
     count(f"{number:,} of {name}", wrong[:5])
     count_if(f"{name} that fits, and that is noted", 0 < len(paths) < number, len(paths))
-    if "-v" in sys.argv:
-        hows = Counter(containers[it.name].how for it in paths)
-        print(f"{name}: {len(paths)} of {number} fit, {len(wrong)} wrong, {time.monotonic() - begin:.1f} s; {hows.most_common(12)}")
-        print(*wrong[:12], sep="\n")
-
-
-def judge_copy(home: Path) -> None:
-    inner = (f"containers.{it}" for it in ("files", "found", "sources"))
-    archive, make = modules_of(home, "judging", *inner), Maker(home / "made")
-    given = [int(it) for it in sys.argv[1:3] if it.isdigit()]
-    number, seed = [*given, *[CONTAINERS, SEED][len(given) :]]
-    random, of_zips = Random(seed), zip_readers()
-    tricks = {**zip_tricks(make), **tar_tricks(make), **asic_tricks(make), **packed_tricks(make)}
-    judge_tricks(archive, home / "by hand", tricks)
-    judge_check(home, home / "listed" / "by hand", tricks)
-    of_jars = {**of_zips, **({"jarsigner": by_jarsigner} if tally.has("jarsigner") else {})}
-    for some, readers in ((zip_kinds(make), of_zips), (tar_kinds(make), tar_readers())):
-        for name, it in some.items():
-            kind = Kind(name.rpartition(".")[2], it, of_jars if name == "jar" else readers)
-            judge_kind(archive, home / f"random {name}", name, kind, random, number // len(some))
-
-
-if __name__ == "__main__":
-    sys.exit(judged_in_a_copy(("cryptography", "click", "tqdm", "sqlalchemy"), judge_copy) if tally.has("openssl") else tally.end(may_skip_all=True))
+    print(f"{name}: {len(paths)} of {number} fit, {len(wrong)} wrong; {Counter(containers[it.name].how for it in paths).most_common(12)}")

@@ -1,10 +1,7 @@
-#!/usr/bin/env python3
 """Makes odd PDFs and mails at random, and has other readers open them: what `cms_canon_archive` says to fit without a note, each reader takes as it is.
 
-    /usr/bin/python3 archive/tests/documents_read.py [PDFS [MAILS [SEED]]]
-
-There are 250 PDFs and 2,000 mails if no numbers are named, and each oddity by itself, with what is to be said of it. The readers are pdfsig,
-mutool, pikepdf (qpdf) and Python's email. What is missing is skipped by its name.
+Each oddity comes also by itself, with what is to be said of it. The readers are pdfsig, mutool, pikepdf (qpdf) and Python's email, JavaMail and
+openssl. What is missing is skipped by its name.
 """
 
 import base64
@@ -13,7 +10,6 @@ import hashlib
 import re
 import struct
 import subprocess
-import sys
 import zlib
 from email.policy import compat32, default
 from io import BytesIO
@@ -21,45 +17,21 @@ from pathlib import Path
 from random import Random
 from typing import Callable, Dict, List, NamedTuple, Sequence, Set, Tuple
 
-from archive import SECONDS, count, count_if, count_same, judged_in_a_copy, modules_of, tally
-from containers import DIFFERS, FITS, PARTLY, Case, Maker, said_of, write
-from places import ARCHIVE
+import pytest
+from cases import DIFFERS, FITS, PARTLY, said_in
+from counting import count_if, count_same, needs
+from odd_pdfs import HOLE, PLAIN, ROOM, Odd, laid_out, objects_of
+from places import DATA
+from running import SECONDS
+from tally import count
 
+pytestmark = [pytest.mark.archive, needs("cryptography", tools=["openssl"])]
 SEED = 3108
 PDFS, MAILS = 250, 2000
-HOLE = 8192  # hexadecimal digits of /Contents
-ROOM = 96  # octets for a ByteRange
 
 
 # ---- PDFs
 
-class Odd(NamedTuple):
-    """How a PDF is made: what its signature says, which fields it has, and what lies around it."""
-
-    ranges: str = "/ByteRange [0 {0} {1} {2}]"
-    contents: bytes = b"/Contents %HOLE%"
-    kind: bytes = b"/SubFilter /adbe.pkcs7.detached"
-    more: bytes = b""
-    """What else is in the dictionary of the signature."""
-    fields: bytes = b"100 0 R"
-    value: bytes = b"10 0 R"
-    field: bytes = b" /FT /Sig"
-    others: Tuple[Tuple[int, bytes], ...] = ()
-    before: bytes = b""
-    counts_before: bool = False
-    """Whether a ByteRange counts from the beginning of the file, and not of the PDF."""
-    after: bytes = b""
-    digits: int = HOLE
-    type: bytes = b"/Sig"
-    extra: bytes = b""
-    """What else lies before the table of objects."""
-    swap: Tuple[bytes, bytes] = (b"", b"")
-    """What is replaced after that table, and by what."""
-    table: Tuple[bytes, bytes] = (b"", b"")
-    """What is replaced in it, and by what."""
-
-
-PLAIN = Odd()
 _ANOTHER = b"<" + b"00" * 40 + b">"
 ODDITIES: Dict[str, Odd] = {
     "plain": PLAIN,
@@ -118,31 +90,6 @@ ODDITIES: Dict[str, Odd] = {
     "a line before the trailer": Odd(swap=(b"trailer", b"\ntrailer")),
     "a later table": Odd(extra=b"7 0 obj\n<< >>\nendobj\n"),
 }
-
-
-def objects_of(odd: Odd) -> Dict[int, bytes]:
-    return {
-        1: b"<< /Type /Catalog /Pages 2 0 R /AcroForm << /Fields [%s] /SigFlags 3 >> >>" % odd.fields,
-        2: b"<< /Type /Pages /Kids [3 0 R] /Count 1 >>", 3: b"<< /Type /Page /Parent 2 0 R /MediaBox [0 0 200 200] >>",
-        10: b"<< /Type %s /Filter /Adobe.PPKLite %s %%RANGE%% %s%s >>" % (odd.type, odd.kind, odd.contents, odd.more),
-        100: b"<< /T (S) /V %s%s /Type /Annot /Subtype /Widget /Rect [0 0 0 0] >>" % (odd.value, odd.field),
-        **dict(odd.others),
-    }
-
-
-def laid_out(odd: Odd) -> bytes:
-    """Returns a PDF with room for a ByteRange and a signature."""
-    octets, places = bytearray(b"%PDF-1.7\n"), {}
-    for number, body in sorted(objects_of(odd).items()):
-        places[number] = len(octets)
-        body = body.replace(b"%RANGES%", b"%RANGES%".ljust(ROOM)).replace(b"%RANGE%", b"%RANGE%".ljust(ROOM))
-        octets += b"%d 0 obj\n%s\nendobj\n" % (number, body.replace(b"%HOLE%", b"<" + b"0" * odd.digits + b">"))
-    octets += odd.extra
-    table = len(octets)
-    entries = b"xref\n0 1\n0000000000 65535 f \n" + b"".join(b"%d 1\n%010d 00000 n \n" % it for it in sorted(places.items()))
-    octets += entries.replace(*odd.table) if odd.table[0] else entries
-    end = b"trailer\n<< /Size 200 /Root 1 0 R >>\nstartxref\n%d\n%%%%EOF\n" % table
-    return bytes(octets) + (end.replace(*odd.swap) if odd.swap[0] else end)
 
 
 def signed(odd: Odd, sign: Callable[[bytes], bytes]) -> bytes:
@@ -227,13 +174,17 @@ PDFS_SAID: Dict[str, Tuple[str, str]] = {  # the state or the class, and the not
 }
 
 
-def judge_odd_pdfs(archive, folder: Path, make) -> None:
+@needs("pikepdf")
+@pytest.mark.parametrize("name", PDFS_SAID)
+def test_odd_pdf(archive, home, make, name):
     """Each oddity by itself is said as it is."""
-    for name, (state, note) in PDFS_SAID.items():
-        came, facts = said_of(archive, write(folder, f"{name}.pdf", Case(signed(ODDITIES[name], make.cms), "")))
-        where = next(iter(came))
-        is_so = came[where] == state and (note in facts[where].note if note else not facts[where].note)
-        count_if(f"PDF with {name}", is_so, came, facts[where].note)
+    count_first(f"PDF with {name}", *said_in(archive, home, f"{name}.pdf", signed(ODDITIES[name], make.cms)), *PDFS_SAID[name])
+
+
+def count_first(name: str, came, facts, state: str, note: str, where: str = "") -> None:
+    """Counts whether a place, the first one if none is named, has this state and a note with these words, or none if there are no words."""
+    where = where or next(iter(came))
+    count_if(name, came[where] == state and (note in facts[where].note if note else not facts[where].note), came, facts[where].note)
 
 
 Entries = Sequence[Tuple[int, Tuple[int, int, int]]]
@@ -264,13 +215,12 @@ def in_an_object_stream(objects: List[Tuple[int, bytes]], sign: Callable[[bytes]
     return bytes(octets)
 
 
-def judge_object_streams(archive, folder: Path, make) -> None:
+@needs("pikepdf")
+def test_object_streams(archive, home, make):
     """A number that an object stream has twice is another object for some readers."""
     real, other, damaged = (1, objects_of(PLAIN)[1]), (1, b"<< /Type /Catalog /Pages 2 0 R >>"), (20, b"<< \x8cCount > >>")
     for name, objects, words in (("once", [real], ""), ("twice", [other, real], "an object stream"), ("beside one not used", [real, damaged], "table")):
-        _, facts = said_of(archive, write(folder, f"{name}.pdf", Case(in_an_object_stream(objects, make.cms), "")))
-        first = next(iter(facts.values()))
-        count_if(f"a catalog {name} in an object stream", first.state == FITS and (words in first.note if words else not first.note), first.note)
+        count_first(f"a catalog {name} in an object stream", *said_in(archive, home, f"{name}.pdf", in_an_object_stream(objects, make.cms)), FITS, words)
 
 
 TABLES: Dict[str, Entries] = {  # in a stream, which lead to something else than the object
@@ -279,16 +229,17 @@ TABLES: Dict[str, Entries] = {  # in a stream, which lead to something else than
 }
 
 
-def judge_tables_in_streams(archive, folder: Path, make) -> None:
+@needs("pikepdf")
+@pytest.mark.parametrize("name", TABLES)
+def test_table_in_a_stream(archive, home, make, name):
     """What a table in a stream says of any object is compared with what is there."""
-    for name, entries in TABLES.items():
-        octets = in_an_object_stream([(1, objects_of(PLAIN)[1])], make.cms, entries)
-        _, facts = said_of(archive, write(folder, f"{name}.pdf", Case(octets, "")))
-        notes = [it.note for it in facts.values()]
-        count_if(f"a table in a stream with {name}", notes and all(notes), notes)
+    octets = in_an_object_stream([(1, objects_of(PLAIN)[1])], make.cms, TABLES[name])
+    notes = [it.note for it in said_in(archive, home, f"{name}.pdf", octets)[1].values()]
+    count_if(f"a table in a stream with {name}", notes and all(notes), notes)
 
 
-def judge_saved_pdfs(archive, make) -> None:
+@needs("pikepdf")
+def test_saved_pdfs(archive, make):
     """What a usual program writes has no note: object streams and tables in streams, also in the order in which they are loaded."""
     import pikepdf
 
@@ -327,21 +278,23 @@ def with_attachment(make, name: str) -> bytes:
     return laid_out(PLAIN._replace(others=others))
 
 
-def judge_attachments(archive, folder: Path, make) -> None:
+@needs("pikepdf")
+@pytest.mark.parametrize("name", ATTACHED_SAID)
+def test_attachment(archive, home, make, name):
     """Whatever is attached is looked into, or named."""
-    for name, wanted in ATTACHED_SAID.items():
-        came, _ = said_of(archive, write(folder, f"attached, {name}.pdf", Case(with_attachment(make, name), "")))
-        count_same(f"an attachment: {name}", came.get("attachment a.p7m"), wanted)
+    came, _ = said_in(archive, home, "attached.pdf", with_attachment(make, name))
+    count_same(f"an attachment: {name}", came.get("attachment a.p7m"), ATTACHED_SAID[name])
 
 
-def judge_pdfs(archive, folder: Path, make, random: Random, number: int) -> None:
+@needs("pikepdf")
+def test_pdfs_at_random(archive, home, make, tally):
     """What is said to fit without a note is valid, and the whole document, for pdfsig and mutool."""
-    wrong, fit = [], 0
-    odd_ones = [*ODDITIES.values(), *(mixed(random) for _ in range(number))]
+    random, wrong, fit = Random(SEED), [], 0
+    odd_ones = [*ODDITIES.values(), *(mixed(random) for _ in range(PDFS))]
     readers = [it for it in ("pdfsig", "mutool") if tally.has(it)]
     for count_of, odd in enumerate(odd_ones):
-        path = write(folder, f"{count_of}.pdf", Case(signed(odd, make.cms), ""))
-        _, facts = said_of(archive, path)
+        path = home / f"{count_of}.pdf"
+        _, facts = said_in(archive, home, path.name, signed(odd, make.cms))
         places = fitting(facts)
         fit += len(places)
         if not places:
@@ -496,16 +449,9 @@ def seen_by_email(octets: bytes, policy) -> bytes:
 JAVA_MAIL = [Path("/usr/share/java") / it for it in ("javax.mail.jar", "javax.activation.jar")]
 
 
-def has_java_mail() -> bool:
-    if not all(it.exists() for it in JAVA_MAIL):
-        tally.skip("JavaMail", "libmail-java is not installed")
-        return False
-    return True
-
-
 def seen_by_java(folder: Path) -> Dict[str, str]:
     ran = subprocess.run(
-        ["java", "-cp", ":".join(map(str, JAVA_MAIL)), str(ARCHIVE / "tests" / "data" / "FirstParts.java"), str(folder)],
+        ["java", "-cp", ":".join(map(str, JAVA_MAIL)), str(DATA / "FirstParts.java"), str(folder)],
         capture_output=True, text=True, timeout=SECONDS,
     )
     return dict(line.split(" ") for line in ran.stdout.splitlines())
@@ -518,15 +464,16 @@ def seen_by_openssl(path: Path) -> bytes:
     return ran.stdout if ran.returncode == 0 else b""
 
 
-def judge_odd_mails(archive, folder: Path, make) -> None:
+@pytest.mark.parametrize("name", MAILS_SAID)
+def test_odd_mail(archive, home, make, name):
     """Each oddity by itself is said as it is."""
-    for name, (state, note) in MAILS_SAID.items():
-        came, facts = said_of(archive, write(folder, f"{name}.eml", Case(letter_of(LETTERS[name], make.cms), "")))
-        where = "part 2" if "part 2" in came else next(iter(came))
-        is_so = came[where] == state and (note in facts[where].note if note else not facts[where].note)
-        count_if(f"mail with {name}", is_so, came, facts[where].note)
+    came, facts = said_in(archive, home, f"{name}.eml", letter_of(LETTERS[name], make.cms))
+    count_first(f"mail with {name}", came, facts, *MAILS_SAID[name], where="part 2" if "part 2" in came else "")
+
+
+def test_digest(archive, home, make):
     digest = b"From: a@example.org\r\nContent-Type: multipart/digest; boundary=d\r\n\r\n--d\r\n\r\n%s\r\n--d--\r\n" % letter_of(Letter(), make.cms)
-    came, _ = said_of(archive, write(folder, "digest.eml", Case(digest, "")))
+    came, _ = said_in(archive, home, "digest.eml", digest)
     count_same("a mail in a digest", came, {"part 1/mail.2": FITS, "": "container"})
 
 
@@ -536,17 +483,17 @@ QUOTED_SAID = {  # what is attached in quoted-printable, and whether all readers
 }
 
 
-def judge_quoted(archive, folder: Path, make) -> None:
+@pytest.mark.parametrize("name", QUOTED_SAID)
+def test_quoted(archive, home, make, name):
     """What is attached in quoted-printable has a note if readers may decode it in another way."""
+    template, is_same = QUOTED_SAID[name]
     message = "".join(f"={octet:02X}" for octet in make.cms(b"signed", "-nodetach")).encode()
-    for name, (template, is_same) in QUOTED_SAID.items():
-        mail = b"From: a\r\nContent-Type: application/pkcs7-mime\r\nContent-Transfer-Encoding: quoted-printable\r\n\r\n" + template % message
-        _, facts = said_of(archive, write(folder, f"quoted, {name}.eml", Case(mail, "")))
-        note = facts["body"].note
-        count_if(f"quoted-printable: {name}", not note if is_same else "of quoted-printable" in note, note)
+    mail = b"From: a\r\nContent-Type: application/pkcs7-mime\r\nContent-Transfer-Encoding: quoted-printable\r\n\r\n" + template % message
+    note = said_in(archive, home, "quoted.eml", mail)[1]["body"].note
+    count_if(f"quoted-printable: {name}", not note if is_same else "of quoted-printable" in note, note)
 
 
-def judge_boxes(archive, folder: Path, make) -> None:
+def test_boxes(archive, home, make):
     """Lines that begin with From, which readers of an mbox take otherwise, have a note."""
     for name, line, signed, words in (
         ("quoted", b">From here on.\r\n", b"From here on.\r\n", "without >"), ("in the middle", b"From a@b Mon Jan  1 00:00:00 2024\r\n", b"", "begins with From"),
@@ -555,12 +502,11 @@ def judge_boxes(archive, folder: Path, make) -> None:
         part = SIGNED_PART + line
         der = make.cms(SIGNED_PART + (signed or line))
         box = b"From a@b Mon Jan  1 00:00:00 2024\n" + letter_of(Letter(), lambda _: der).replace(SIGNED_PART, part) + b"\n"
-        came, facts = said_of(archive, write(folder, f"{name}.mbox", Case(box, "")))
-        note = facts["mail 1!part 2"].note
-        count_if(f"an mbox, {name}", came["mail 1!part 2"] == FITS and (words in note if words else not note), came, note)
+        came, facts = said_in(archive, home, f"{name}.mbox", box)
+        count_first(f"an mbox, {name}", came, facts, FITS, words, where="mail 1!part 2")
 
 
-def judge_leaves(archive, folder: Path, make) -> None:
+def test_leaves(archive, home, make):
     """What lies in a text of a mail, or in a part of any type, is found; so is PEM after what seems to be a header."""
     pem, der = make.cms(b"signed", "-nodetach", form="PEM"), base64.encodebytes(make.cms(b"signed", "-nodetach"))
     pgp = b"-----BEGIN PGP SIGNED MESSAGE-----\nHash: SHA512\n\ntext\n-----BEGIN PGP SIGNATURE-----\n\nAAAA\n-----END PGP SIGNATURE-----\n"
@@ -571,31 +517,32 @@ def judge_leaves(archive, folder: Path, make) -> None:
         ("mixed.eml", b"From: a\nContent-Type: multipart/mixed; boundary=c\n\n--c\nContent-Type: x/y\n" + coded + b"\n--c--\n", "part 1", FITS),
         ("words.eml", b"From: a\n\nSome words.\n", "", "container without message"),
     ):
-        came, _ = said_of(archive, write(folder, name, Case(octets, "")))
+        came, _ = said_in(archive, home, name, octets)
         count_if(f"a leaf of a mail: {name}", came.get(place) == wanted, came)
 
 
-def judge_line_ends(archive, folder: Path, make) -> None:
+def test_line_ends(archive, home, make):
     """A part that was signed with LF as it is, as AS2 does it, fits with a note; with another octet it does not."""
     part = SIGNED_PART.replace(b"\r\n", b"\n") + b"\0\n"
     mail = letter_of(Letter(coding=b"binary", value=lambda der: der), lambda _: make.cms(part)).replace(SIGNED_PART, part)
     for name, octets, wanted, note in (("as it is", mail, FITS, "with LF"), ("changed", mail.replace(b"What", b"Whet"), DIFFERS, "")):
-        came, facts = said_of(archive, write(folder, f"LF {name}.eml", Case(octets, "")))
+        came, facts = said_in(archive, home, f"LF {name}.eml", octets)
         count_if(f"a part with LF, {name}", came.get("part 2") == wanted and note in facts["part 2"].note, came, facts["part 2"].note)
 
 
-def judge_mails(archive, folder: Path, make, random: Random, number: int) -> None:
+def test_mails_at_random(archive, home, make, tally):
     """What is said to fit without a note is what Python's email, JavaMail and openssl show of the part."""
-    der = make.cms(SIGNED_PART)
+    random, der = Random(SEED), make.cms(SIGNED_PART)
     letters = [letter_of(it, lambda _: der) for it in LETTERS.values()]
-    letters += [spoilt_letter(random, letter_of(mixed_letter(random), lambda _: der)) for _ in range(number)]
+    letters += [spoilt_letter(random, letter_of(mixed_letter(random), lambda _: der)) for _ in range(MAILS)]
     wrong, fitting_ones, shown = [], [], shown_of(email.message_from_bytes(SIGNED_PART, policy=compat32))
     for count_of, octets in enumerate(letters):
-        path = write(folder, f"{count_of:05d}.eml", Case(octets, ""))
-        if fitting(said_of(archive, path)[1]):
-            fitting_ones.append(path)
-    has_java = tally.has("java") and has_java_mail()
-    by_java = seen_by_java(folder) if has_java else {}
+        if fitting(said_in(archive, home, f"{count_of:05d}.eml", octets)[1]):
+            fitting_ones.append(home / f"{count_of:05d}.eml")
+    has_java = tally.has("java") and all(it.exists() for it in JAVA_MAIL)
+    if not has_java:
+        tally.skip("JavaMail", "libmail-java or java is not installed")
+    by_java = seen_by_java(home) if has_java else {}
     for path in fitting_ones:
         octets = path.read_bytes()
         views = [seen_by_email(octets, compat32), seen_by_email(octets, default)]
@@ -606,28 +553,3 @@ def judge_mails(archive, folder: Path, make, random: Random, number: int) -> Non
             wrong.append((path.name, "openssl"))
     name = f"{len(letters):,} mails, of which {len(fitting_ones):,} are said to fit without a note"
     count(name, wrong[:3] or ("" if len(fitting_ones) > len(letters) // 20 else "too few fit"))
-
-
-def judge_copy(home: Path) -> None:
-    inner = (f"containers.{it}" for it in ("files", "forms", "found", "mail", "sources"))
-    archive = modules_of(home, "judging", *inner)
-    given = [int(it) for it in sys.argv[1:4]]
-    pdfs, mails, seed = [*given, *[PDFS, MAILS, SEED][len(given) :]]
-    random, make = Random(seed), Maker(home / "made")
-    if tally.has_package("pikepdf"):
-        judge_odd_pdfs(archive, home / "odd", make)
-        judge_object_streams(archive, home / "odd", make)
-        judge_tables_in_streams(archive, home / "odd", make)
-        judge_saved_pdfs(archive, make)
-        judge_attachments(archive, home / "odd", make)
-        judge_pdfs(archive, home / "pdfs", make, random, pdfs)
-    judge_odd_mails(archive, home / "odd", make)
-    judge_line_ends(archive, home / "odd", make)
-    judge_quoted(archive, home / "odd", make)
-    judge_boxes(archive, home / "odd", make)
-    judge_leaves(archive, home / "odd", make)
-    judge_mails(archive, home / "mails", make, random, mails)
-
-
-if __name__ == "__main__":
-    sys.exit(judged_in_a_copy(("cryptography",), judge_copy) if tally.has("openssl") else tally.end(may_skip_all=True))

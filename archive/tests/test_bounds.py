@@ -1,17 +1,15 @@
-#!/usr/bin/env python3
 """Measures what containers cost that are made to be expensive to `cms_canon_archive`: memory and time of a processor stay within bounds.
 
-    /usr/bin/python3 archive/tests/bounds.py [SECONDS [SEED]]
-
 Each container is read by a process of its own, which may take 64 MB more than without it and twice the largest piece that it reads, and 2 s for each
-10 MB that it reads, unpacked, and 0.3 ms for each message; what is too large is said so with a figure. A generator looks for so many seconds (20 if no number is named) for
-manifests that are worse, by putting together parts of them at random.
+10 MB that it reads, unpacked, and 0.3 ms for each message; what is too large is said so with a figure. A generator looks for manifests that are worse,
+by putting together parts of them at random: for 20 seconds, or for as many as the variable BOUNDS_SECONDS says, from the number BOUNDS_SEED.
 """
 
 import base64
 import gzip
 import io
 import json
+import os
 import subprocess
 import sys
 import time
@@ -21,12 +19,16 @@ from pathlib import Path
 from random import Random
 from typing import Callable, Dict, List, NamedTuple, Tuple
 
-from archive import count_if, judged_in_a_copy, tally, write_files, zipped
-from containers import Maker
-from documents_read import PLAIN, laid_out
+import pytest
+from cases import Maker
+from counting import count_if, needs
+from making import write_files, zipped
+from odd_pdfs import PLAIN, laid_out
+from running import environment_of
 
-SEARCHING = 20  # seconds
-SEED = 4711
+pytestmark = [pytest.mark.archive, needs("cryptography", tools=["openssl"])]
+SEARCHING = int(os.environ.get("BOUNDS_SECONDS", 20))
+SEED = int(os.environ.get("BOUNDS_SEED", 4711))
 MEMORY = 64 << 20
 SLOWEST = 2 / 10e6  # seconds an octet
 OF_A_MESSAGE = 0.3e-3  # seconds
@@ -193,9 +195,9 @@ def costs(home: Path, paths: List[Path]) -> List[list]:
     """Returns what each container costs: octets of memory, seconds, octets read, messages, and what is said to be too large."""
     lines = []
     for path in paths:
-        ran = subprocess.run([sys.executable, "-c", READING, path], cwd=home, capture_output=True, text=True, timeout=600)
-        if ran.returncode:
-            raise SystemExit(ran.stderr[-800:])
+        words = [sys.executable, "-c", READING, path]
+        ran = subprocess.run(words, cwd=home, env=environment_of(home), capture_output=True, text=True, timeout=600)
+        assert ran.returncode == 0, ran.stderr[-800:]
         lines.append(json.loads(ran.stdout))
     return lines
 
@@ -213,18 +215,17 @@ def most_seconds(octets: int, messages: int, slower: float) -> float:
     return slower * max(LEAST, SLOWEST * octets + OF_A_MESSAGE * messages)
 
 
-def judge_evil(home: Path, folder: Path, make: Maker) -> None:
+def test_evil(home, make):
     some = evils(make)
-    write_files(folder, {name: it.octets for name, it in some.items()})
-    before, found = slowness(), [*costs(home, [folder / name for name in some])]
+    write_files(home, {name: it.octets for name, it in some.items()})
+    before, found = slowness(), [*costs(home, [home / name for name in some])]
     slower = max(before, slowness())
     for (name, it), (memory, seconds, octets, messages, rows) in zip(some.items(), found):
         is_bound = memory <= MEMORY + 2 * it.largest and seconds <= most_seconds(octets, messages, slower)
         is_said = not it.is_too_large or any("more than" in note for _, note in rows)
         came = f"{memory >> 20} MB, {seconds:.1f} s, {octets:,} octets, {rows}"
         count_if(f"the bounds for {name}", is_bound and is_said, came)
-        if "-v" in sys.argv:
-            print(name, came)
+        print(name, came)
 
 
 def at_random(make: Maker, random: Random) -> Evil:
@@ -241,27 +242,15 @@ def at_random(make: Maker, random: Random) -> Evil:
     return jar(make, random.choice((text(lines), b"A: b\n\n" + some)), *[some] * random.choice((1, 1, 3)), is_too_large=False)
 
 
-def judge_search(home: Path, folder: Path, make: Maker, random: Random, seconds: int) -> None:
+def test_search(home, make):
     """No container that is made at random costs more than it may."""
-    slower = slowness()
-    end, number, wrong = time.monotonic() + seconds, 0, []
+    random, slower = Random(SEED), slowness()
+    end, number, wrong = time.monotonic() + SEARCHING, 0, []
     while time.monotonic() < end:
         it, number = at_random(make, random), number + 1
-        path = write_files(folder, {"evil.asice" if b"ASiCManifest" in it.octets else "evil.jar": it.octets}) / "evil.jar"
-        path = path if b"ASiCManifest" not in it.octets else folder / "evil.asice"
+        path = home / ("evil.asice" if b"ASiCManifest" in it.octets else "evil.jar")
+        path.write_bytes(it.octets)
         ((memory, took, octets, messages, rows),) = costs(home, [path])
         if memory > MEMORY + 2 * it.largest or took > most_seconds(octets, messages, slower):
             wrong.append(f"{number}: {memory >> 20} MB, {took:.1f} s, {octets:,} octets, {rows}")
     count_if(f"the bounds for {number} containers at random", number and not wrong, wrong[:3])
-
-
-def judge_copy(home: Path) -> None:
-    given = [int(it) for it in sys.argv[1:3] if it.isdigit()]
-    seconds, seed = [*given, *[SEARCHING, SEED][len(given) :]]
-    make = Maker(home / "made")
-    judge_evil(home, home / "evil", make)
-    judge_search(home, home / "search", make, Random(seed), seconds)
-
-
-if __name__ == "__main__":
-    sys.exit(judged_in_a_copy(("cryptography",), judge_copy) if tally.has("openssl") else tally.end(may_skip_all=True))
