@@ -16,7 +16,7 @@ import time
 from pathlib import Path
 
 TOP = Path(__file__).resolve().parents[2]
-sys.path[:0] = [str(TOP / it) for it in ("archive/tests/support", "tests/support", "tests")]
+sys.path[:0] = [str(TOP / it) for it in ("archive/tests/support", "tests/support")]
 
 from places import copy_packages  # noqa: E402
 
