@@ -11,7 +11,7 @@ from typing import NamedTuple
 
 from elements import contents_of, oid
 
-HEADER = Path(__file__).resolve().parent.parent / "bindings" / "c" / "cms_canon.h"
+HEADER = Path(__file__).resolve().parents[2] / "bindings" / "c" / "cms_canon.h"
 KINDS = {name: int(number, 16) for name, number in re.findall(r"\bCMS_CANON_KIND_(\w+) = (0x..)\b", HEADER.read_text())}
 
 COUNTERSIGNATURE = "1.2.840.113549.1.9.6"

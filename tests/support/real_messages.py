@@ -1,35 +1,18 @@
-#!/usr/bin/env python3
-"""Makes messages with OpenSSL and GnuPG, converts them with the built program, and has both tools verify the results.
+"""Messages that OpenSSL and GnuPG make, with keys and certificates that are made on the spot, and what the rules make of them.
 
-    python3 tests/real_messages.py [PROGRAM]
-
-Keys, certificates and messages are made on the spot, in a folder that is removed afterwards. Of each message it
-is checked that
-
-- `converted`: it becomes what the rules make of it, which `message_part` below works out for itself;
-- `signed-octets`: the content, the signed attributes and the signatures have the same octets in both;
-- `again`: what was written is converted to itself;
-- `cmsout`: if OpenSSL reads the message and writes it again, it writes the same octets;
-- `verified`: each verification ends with the same status and gives the same output for both.
-
-Together the messages have to need each rule (`rules`). Then come inputs that are refused (`refused`). A tool that is
-missing, and a message that a tool of this release cannot make, are skipped by their names.
+A message that a tool of this release cannot make is skipped by its name.
 """
 
 import os
 import re
-import shutil
 import subprocess
-import sys
-import tempfile
 import tomllib
 from collections import namedtuple
 from pathlib import Path
 
 from elements import CONSTRUCTED, element as written, element_at, message as message_with
 from generated_messages import COUNTERSIGNATURE, AsItStands, OctetString, Primitive, Sequence, SetOf, parts_of
-from run_vectors import DATA_FILES, Outcome, complaint, program_in, refused, run, shortened
-from tally import Tally
+from programs import DATA_FILES, Outcome, complaint, run, shortened
 
 SECONDS = 60  # no call of a tool may take longer
 PASSPHRASE = b"passphrase\n"
@@ -140,6 +123,11 @@ def whole(words):
     if isinstance(words, list):
         return [whole(it) for it in words]
     return re.sub(r"\{(\w+)\}", lambda it: READ["commands"][it[1]], words)
+
+
+def made_of_openssl(tools, name):
+    """Returns a message that OpenSSL makes of no other one."""
+    return tools.make(whole(next(makes for it, makes, *_ in READ["messages"]["openssl"] if it == name)))
 
 
 def made(tools, tally, tool):
@@ -335,27 +323,6 @@ def attribute_part(attribute):
     return Sequence(primitive(kind), set_of(values, member, "values of an unsigned attribute ascend"))
 
 
-RULES = (
-    "lengths are definite", "strings are in one piece", "digest algorithms ascend", "certificates ascend", "revocation lists ascend",
-    "signers ascend", "unsigned attributes ascend", "values of an unsigned attribute ascend",
-)
-
-
-def rules_needed(message):
-    """Gives each of the rules that a message does not follow."""
-    elements = [element_at(message)]
-    for element in elements:
-        elements += element.members
-    if any(element.is_indefinite for element in elements):
-        yield "lengths are definite"
-    if any(element.identifier == OCTET_STRING | CONSTRUCTED for element in elements):
-        yield "strings are in one piece"
-    for part in (it for it in parts_of(message_part(message)) if isinstance(it, SetOf)):
-        ders = [member.der() for member in part.members]
-        if ders != sorted(ders):
-            yield part.rule
-
-
 def unlike(wanted, came):
     """Returns where two encodings begin to differ, or an empty text if they do not."""
     if wanted == came:
@@ -373,106 +340,6 @@ def why_not_converted(program, der, *spellings):
     return ""
 
 
-def judge_signed_octets(message, converted):
-    """What signatures cover, and the signatures, have the same octets in what is written."""
-    content = content_of(message.octets)
-    octets = [] if content is None else [("the content", joined(content))]
-    for signer in map(fields_of, signer_infos(message.octets)):
-        octets += [*(("signed attributes", it.octets) for it in signer.signed), ("a signature", joined(signer.signature))]
-    return next((f"{what} did not stay: {shortened(it)}" for what, it in octets if it not in converted), "")
-
-
-def judge_cmsout(tools, message, converted):
-    """OpenSSL makes lengths definite, joins strings and sorts every set too: there is no difference to allow for."""
-    ended = tools.run("openssl cms -cmsout -inform DER -outform DER", message.octets)
-    return unlike(ended.stdout, converted) if ended.returncode == 0 else reason_of(ended.stderr)
-
-
-def judge_verified(tools, message, converted_file):
-    for words in (*message.verifies, *message.denies):
-        received, converted = (tools.run(words.format(file)) for file in (f"{message.name}.der", converted_file))
-        if (received.returncode == 0) != (words in message.verifies):
-            return f"`{words}` gives {received.returncode} for the message itself: {reason_of(received.stderr)}"
-        if converted.returncode != received.returncode:
-            return (f"`{words}` gives {converted.returncode}, and {received.returncode} for the message itself:"
-                    f" {reason_of(converted.stderr)}")
-        if converted.stdout != received.stdout:
-            return f"`{words}` writes something else: {unlike(received.stdout, converted.stdout)}"
-    return ""
-
-
-def judge_message(program, tools, tally, message):
-    came = run([program, "convert"], message.octets)
-    differs = complaint(Outcome(None, b"", 0), came) or unlike(message_part(message.octets).der(), came.stdout)
-    tally.count(f"{message.name}/converted", differs)
-    if not came.stdout:
-        return
-    converted_file = f"{message.name}.converted.der"
-    tools.write(converted_file, came.stdout)
-    again = complaint(Outcome(came.stdout, b"", 0), run([program, "convert"], came.stdout))
-    tally.count(f"{message.name}/signed-octets", judge_signed_octets(message, came.stdout))
-    tally.count(f"{message.name}/again", again)
-    tally.count(f"{message.name}/cmsout", judge_cmsout(tools, message, came.stdout))
-    tally.count(f"{message.name}/verified", judge_verified(tools, message, converted_file))
-
-
-# ---- what is refused
-
 def behind(octets, part):
     """Returns how many octets there are up to the end of the part."""
     return octets.index(part) + len(part)
-
-
-def refused_inputs(tools):
-    for name, words in READ["not_signed"].items():
-        octets = tools.make(words)
-        yield name, octets, refused(17, "NotSignedData", behind(octets, element_at(octets, 0).members[0].octets))
-    for name, words in READ["not_ber"].items():
-        yield name, tools.make(words), refused(7, "UnexpectedElement", 2)
-    for name in ["attached", "streamed"]:
-        octets = tools.read(f"{name}.der")
-        yield f"{name}-and-a-newline", octets + b"\n", refused(18, "Trailing", len(octets) + 1)
-        yield f"{name}-twice", octets + octets, refused(18, "Trailing", len(octets) + 1)
-        yield f"{name}-cut", octets[:-1], refused(1, "Truncated", len(octets) - 1)
-    message = tools.read("attached.der")
-    first, second, *_ = (it.octets for it in signed_attributes(signer_infos(message)[0]).members)
-    octets = message.replace(first + second, second + first)
-    yield "attributes-swapped", octets, refused(15, "SignedAttrsNotDer", behind(octets, first))
-
-
-def judge_all(program, tools, tally):
-    set_up(tools)
-    needed = set()
-    for message in all_messages(tools, tally):
-        judge_message(program, tools, tally, message)
-        needed.update(rules_needed(message.octets))
-    idle = [rule for rule in RULES if rule not in needed]
-    tally.count("rules", f"no message needed a change so that {', '.join(idle)}" if idle else "")
-    for name, octets, wanted in refused_inputs(tools):
-        tally.count(f"refused/{name}", complaint(wanted, run([program, "convert"], octets)))
-
-
-def judged(words, judge, *needs):
-    """Has a built program judged, and returns the exit status. `needs` names what is skipped if openssl is missing."""
-    if (program := program_in(words)) is None:
-        return 1
-    tally = Tally()
-    if all([tally.has("openssl", it) for it in needs]):
-        judge_with_tools(tally, lambda tools: judge(program, tools, tally))
-    return tally.end(may_skip_all=True)
-
-
-def judge_with_tools(tally, judge):
-    with tempfile.TemporaryDirectory() as folder:
-        tools = Tools(folder)
-        try:
-            judge(tools)
-        except (ToolFault, OSError) as fault:
-            tally.count("tools", repr(fault))
-        finally:
-            if tools.gnupg.exists() and shutil.which("gpgconf"):  # what GnuPG started for its folder would end only when that is gone
-                tools.run("gpgconf --kill all")
-
-
-if __name__ == "__main__":
-    sys.exit(judged(sys.argv[1:], judge_all, "openssl", "gpgsm, whose keys are made by it"))

@@ -10,7 +10,7 @@ from random import Random
 from elements import token_around
 from generated_messages import SEED, due, request, response, signed_message
 from listing import truth
-from run_vectors import line_of, octets_of, read_vectors
+from programs import line_of, octets_of, read_vectors
 from walk import COUNTERSIGNATURE, TST_INFO, contents_of_integer, countersignatures_of, fields_of, fields_of_tst_info
 
 MESSAGES = 150  # made at random

@@ -1,34 +1,35 @@
-#!/usr/bin/env python3
 """Makes requests and responses of time-stamping with OpenSSL, converts them, and has OpenSSL read and verify the results.
 
-    python3 tests/time_stamps.py [PROGRAM]
-
-An authority, its keys and all messages are made on the spot, in a folder that is removed afterwards: requests by each digest, with a
+An authority, its keys and all messages are made on the spot: requests by each digest, with a
 nonce and without, with a policy and without, asking for certificates and not; the responses to them; and responses that reject one.
 OpenSSL writes no indefinite lengths and TRUE as DER has it, so each message is also spelled otherwise by hand. What the rules make of a
 token is worked out by `message_part`. A time-stamp over a file in BER is made too: it is not one over the DER of that file.
 """
 
 import itertools
-import sys
 from collections import namedtuple
 
-from real_messages import CONSTRUCTED, element_at, judged, message_part, reason_of, set_up, unlike, why_not_converted, written
-from run_vectors import Outcome, complaint, run
+import pytest
+from elements import CONSTRUCTED, element_at
+from openssl_tokens import DIGESTS
+from programs import Outcome, complaint, run
+from real_messages import message_part, reason_of, unlike, why_not_converted, written
+from tst_model import INTEGER, SEQUENCE
 
-DIGESTS = ("sha1", "sha224", "sha256", "sha384", "sha512")
+pytestmark = pytest.mark.built
+
 CERTIFICATES = ("", " -cert")
 NONCES = ("", " -no_nonce")
 POLICIES = ("", " -tspolicy 1.2.3.4.2")
 
-BOOLEAN, INTEGER, BIT_STRING, SEQUENCE, EXTENSIONS = 0x01, 0x02, 0x03, 0x30, 0xA0
+BOOLEAN, BIT_STRING, EXTENSIONS = 0x01, 0x03, 0xA0
 TRUE, FALSE = bytes.fromhex("0101ff"), bytes.fromhex("010100")
 TRUE_OTHERWISE = bytes.fromhex("010105")
 
 VERIFIES = "openssl ts -verify -CAfile ca.pem -untrusted stamper.crt"
 
 
-Response = namedtuple("Response", "name query section is_granted")
+Response = namedtuple("Response", "name query is_granted")
 
 
 def indefinite(element, levels=1):
@@ -101,56 +102,54 @@ def judge_cover(program, tools, response, cover):
 
 # ---- what is made
 
-def make_queries(tools):
-    for digest, certificates, nonce, policy in itertools.product(DIGESTS, CERTIFICATES, NONCES, POLICIES):
-        options = f"{certificates}{nonce}{policy}"
-        name = f"{digest}{options.replace(' ', '').replace('1.2.3.4.2', '')}.tsq"
-        tools.make(f"openssl ts -query -data content.txt -{digest}{options} -out {name}")
-        yield name
+OPTIONS = [*itertools.product(DIGESTS, CERTIFICATES, NONCES, POLICIES)]
 
 
-def responses(queries):
-    """Gives the responses: one to each request, and those to what the authority does not accept."""
-    for query in queries:
-        yield Response(query.replace(".tsq", ".tsr"), query, "stamps_sha256", True)
-    yield Response("another-policy.tsr", "another-policy.tsq", "stamps_sha256", False)
-    yield Response("another-digest.tsr", "sha384.tsq", "stamps_sha1", False)
+def make_query(tools, name, words):
+    """Makes a request, and returns the name of its file."""
+    tools.make(f"openssl ts -query -data content.txt {words} -out {name}")
+    return name
 
 
-def judge_rejections(tools, tally):
-    """A rejection has a status, a text and failInfo, so that the checks above were of responses with all three."""
-    for name in ("another-policy", "another-digest"):
-        (status,) = element_at(tools.read(f"{name}.tsr"), 0).members
-        fields = [field.identifier for field in status.members]
-        tally.count(f"{name}/rejected", "" if fields == [INTEGER, SEQUENCE, BIT_STRING] else f"fields: {fields}")
+def make_response(tools, name, query, section="stamps_sha256", is_granted=True):
+    tools.make(f"openssl ts -reply -queryfile {query} -section {section} -out {name}")
+    return Response(name, query, is_granted)
 
 
-def judge_all(program, tools, tally):
-    set_up(tools)
-    queries = list(make_queries(tools))
-    tools.make("openssl ts -query -data content.txt -sha256 -tspolicy 1.2.3.4.9 -out another-policy.tsq")
-    for query in [*queries, "another-policy.tsq"]:
-        judge_query(program, tools, tally, query)
-    for response in responses(queries):
-        tools.make(f"openssl ts -reply -queryfile {response.query} -section {response.section} -out {response.name}")
-        judge_response(program, tools, tally, response)
-    judge_rejections(tools, tally)
-    # A time-stamp over a file in BER fits that file, and not its DER: `check --data` and OpenSSL say so.
-    tools.make("openssl cms -sign -in content.txt -signer rsa.pem -binary -nodetach -stream -outform DER -out original.ber")
-    tools.make("openssl ts -query -data original.ber -sha256 -cert -out original.tsq")
-    tools.make("openssl ts -reply -queryfile original.tsq -section stamps_sha256 -out original.tsr")
-    original = tools.read("original.ber")
+@pytest.mark.parametrize("options", OPTIONS, ids="".join)
+def test_query_and_response(program, authority, tally, options):
+    query = make_query(authority, "query.tsq", f"-{''.join(options)}")
+    judge_query(program, authority, tally, query)
+    judge_response(program, authority, tally, make_response(authority, "query.tsr", query))
+
+
+@pytest.mark.parametrize("name, words, section", [
+    ("another-policy", "-sha256 -tspolicy 1.2.3.4.9", "stamps_sha256"), ("another-digest", "-sha384", "stamps_sha1"),
+])
+def test_rejection(program, authority, tally, name, words, section):
+    """What the authority does not accept gets a status, a text and failInfo."""
+    query = make_query(authority, f"{name}.tsq", words)
+    if name == "another-policy":
+        judge_query(program, authority, tally, query)
+    judge_response(program, authority, tally, make_response(authority, f"{name}.tsr", query, section, is_granted=False))
+    (status,) = element_at(authority.read(f"{name}.tsr"), 0).members
+    fields = [field.identifier for field in status.members]
+    tally.count(f"{name}/rejected", "" if fields == [INTEGER, SEQUENCE, BIT_STRING] else f"fields: {fields}")
+
+
+def test_time_stamp_over_ber(program, authority, tally):
+    """A time-stamp over a file in BER fits that file, and not its DER: `check --data` and OpenSSL say so."""
+    authority.make("openssl cms -sign -in content.txt -signer rsa.pem -binary -nodetach -stream -outform DER -out original.ber")
+    authority.make("openssl ts -query -data original.ber -sha256 -cert -out original.tsq")
+    authority.make("openssl ts -reply -queryfile original.tsq -section stamps_sha256 -out original.tsr")
+    original = authority.read("original.ber")
     converted = run([program, "convert"], original).stdout
-    tools.write("original.der", converted)
-    stamp, right = tools.read("original.tsr"), b"F18 signer 0 verifier says unknown\n"
+    authority.write("original.der", converted)
+    stamp, right = authority.read("original.tsr"), b"F18 signer 0 verifier says unknown\n"
     for name, data, wanted in (
         ("original.ber", original, Outcome(right, b"", 0)),
         ("original.der", converted, Outcome(b"F14 imprint differs\n" + right, b"", 1)),
     ):
         tally.count(f"{name}/imprint", complaint(wanted, run([program, "check", "--data"], stamp + data)))
-        verified = tools.run(f"{VERIFIES} -data {name} -in original.tsr").returncode == 0
+        verified = authority.run(f"{VERIFIES} -data {name} -in original.tsr").returncode == 0
         tally.count(f"{name}/verified", "" if verified == (wanted.status == 0) else f"OpenSSL says {verified}")
-
-
-if __name__ == "__main__":
-    sys.exit(judged(sys.argv[1:], judge_all, "openssl ts"))

@@ -9,7 +9,7 @@ from pathlib import Path
 
 from machines import ended
 
-TOP = Path(__file__).resolve().parent.parent
+TOP = Path(__file__).resolve().parents[2]
 sys.path.insert(0, str(TOP / "packaging"))
 
 from packages.crates import of_kit  # noqa: E402

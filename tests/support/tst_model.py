@@ -6,10 +6,9 @@ from collections import namedtuple
 from elements import message
 from real_messages import OCTET_STRING, SIGNED_ATTRIBUTES, UNSIGNED_ATTRIBUTES, content_of, element_at, joined, signed_data_of
 from real_messages import signer_infos, written
-from time_stamps import SEQUENCE
 from walk import KINDS, fields_of_tst_info
 
-SET = 0x31
+INTEGER, SEQUENCE, SET = 0x02, 0x30, 0x31
 CERTIFICATES = 0xA0
 
 ALGORITHMS = ("sha256", "sha384", "sha512", "sha224", "sha512_224", "sha512_256")  # of NIST, by their numbers from 1

@@ -1,140 +1,36 @@
-#!/usr/bin/env python3
 """Feeds the vectors of `tests/vectors` to the built program, and compares what it writes and its status.
 
-    python3 tests/run_vectors.py [PROGRAM [LIBRARY]]
-
-LIBRARY is cms_test_driver, which calls `canonicalise` under any limit and with either tail, over a reader that gives few octets at a time or has
-few at hand: each conversion is asked of it too. It calls `canonicalise_many` over the same readers.
+The library program, cms_test_driver, calls `canonicalise` under any limit and with either tail, over a reader that gives few octets at a time or
+has few at hand: each conversion is asked of it too. It calls `canonicalise_many` over the same readers.
 
 docs/VECTORS.md says what the kinds and fields of the vectors are.
 """
 
 import bisect
-import contextlib
 import functools
 import hashlib
 import itertools
-import json
-import os
-import resource
 import shutil
-import socket
-import subprocess
-import sys
-import tempfile
-import threading
 import tomllib
-from collections import Counter
-from pathlib import Path
-from typing import NamedTuple, Optional
 
+import pytest
 from elements import element, element_at
-from tally import Tally
+from programs import DATA_FILES, ENCLOSING, LIMIT_OF_VECTORS, SMALLEST, WRITERS, Outcome, complaint, complaint_of_growths, first, line_of
+from programs import octets_of, read_vectors, refused, refusing, run, settings, shortened, told
+from tally import fail_if
 
-TOP = Path(__file__).resolve().parent.parent
-RELEASE = TOP / "dist" / "x86_64-linux"
-VECTORS, DATA_FILES = TOP / "tests" / "vectors", TOP / "tests" / "data"
-PROGRAM = TOP / "crates" / "cms_canon_program" / "out" / "cms_canon_program"
-LIBRARY = TOP / "crates" / "cms_test_driver" / "out" / "cms_test_driver"
+pytestmark = pytest.mark.built
+
+EVERY = read_vectors()
 READERS = ("convert", "at-hand")  # the library program's words for a reader with no octets at hand and one with some
 MANY_READERS = ("many", "many-at-hand")  # the same for messages one after another
 PACES = (1, 2, 3, 7, 4096)  # octets at a time, or at hand
-MOST_NEEDLESS_GROWTHS = 20  # after so many in a row that do no harm when they are refused, no further ones are looked for
 LONGEST_CUT = 300  # octets of an input that is cut anywhere
 
 ALGORITHMS = ("sha1", "sha224", "sha256", "sha384", "sha512", "sha512-224", "sha512-256")
 
-WRITERS = (  # that fail in the end: how many octets one takes at a time, and what it returns then
-    {"WRITE_MOST": 1, "WRITE_END": -1}, {"WRITE_MOST": 3, "WRITE_END": -1}, {"WRITE_MOST": 1 << 20, "WRITE_END": -1},
-    {"WRITE_MOST": 1 << 20, "WRITE_END": 0},
-)
-
-LIMIT_OF_VECTORS = 16777216  # where a vector names none
-SECONDS = 60  # no run may take longer
-SMALLEST = "conversions/smallest-signed-data"
-
-
-class Outcome(NamedTuple):
-    """What a run of the program wrote, and its exit status. A wanted None stands for any octets but none."""
-
-    stdout: Optional[bytes]
-    stderr: bytes
-    status: object
-
-
-def feed(writer, octets, again):
-    """Gives the octets to a pipe, and then `again` without end, until the program has closed its side."""
-    with contextlib.suppress(BrokenPipeError), open(writer, "wb") as pipe:
-        pipe.write(octets)
-        while again:
-            pipe.write(again)
-
-
-def input_of(octets, again, room):
-    """Returns a reader that gives the octets, and then `again` without end; or one that fails after as many as there is room for.
-
-    A local socket that is closed while it holds an unread octet resets the connection, once the other side has read all that was sent.
-    """
-    if room is None:
-        reader, writer = os.pipe()
-        threading.Thread(target=feed, args=(writer, octets, again), daemon=True).start()
-        return reader
-    reader, writer = socket.socketpair()
-    with reader, writer:
-        reader.send(b"?")
-        writer.sendall(octets[:room])
-        return os.dup(reader.fileno())
-
-
-def run(words, octets, again=b"", reader_room=None, writer_room=None):
-    """Runs words[0] on the octets, with a reader or writer that fails where its room is given."""
-    with tempfile.TemporaryFile() as file, open(input_of(octets, again, reader_room), "rb") as given:
-        how = {"stdin": given, "stdout": subprocess.PIPE, "stderr": subprocess.PIPE, "timeout": SECONDS}
-        if writer_room is not None:
-            # A write fails once the file has so many octets. Python ignores the signal that would come with it.
-            limit = functools.partial(resource.setrlimit, resource.RLIMIT_FSIZE, (writer_room, writer_room))
-            how.update(stdout=file, preexec_fn=limit, restore_signals=False)
-        try:
-            ended = subprocess.run(words, **how)
-        except subprocess.TimeoutExpired:
-            return Outcome(b"", b"", f"none after {SECONDS} seconds")
-        file.seek(0)
-        return Outcome(file.read() if ended.stdout is None else ended.stdout, ended.stderr, ended.returncode)
-
-
-@functools.cache
-def built_refusing():
-    """Returns a folder with tests/c/refusing.c as a library, which is removed with it."""
-    folder = tempfile.TemporaryDirectory()
-    subprocess.run(["gcc", "-shared", "-fPIC", "-Wall", TOP / "tests" / "c" / "refusing.c", "-o", f"{folder.name}/refusing.so"], check=True)
-    return folder
-
-
-def settings(how):
-    """Returns the settings of the environment in which a program has the faults that `how` names in the words of tests/c/refusing.c."""
-    return [f"LD_PRELOAD={built_refusing().name}/refusing.so", *(f"{name}={it}" for name, it in how.items())]
-
-
-def refusing(how, words):
-    return ["env", *settings(how), *words]
-
 
 # ---- what is wanted
-
-def octets_of(vector, field):
-    """Returns the octets of the field, or of the parts that stand in its place."""
-    if field in vector:
-        return bytes.fromhex(vector[field])
-    return b"".join(bytes.fromhex(octets) * times for octets, times in vector[field + "_parts"])
-
-
-def line_of(refusal):
-    return "refused E{number} {name} at {at}".format(**refusal)
-
-
-def refused(number, name, at, status=3):
-    return Outcome(b"", f"{line_of({'number': number, 'name': name, 'at': at})}\n".encode(), status)
-
 
 def rooms_of(vector):
     return {field: vector.get(field) for field in ("reader_room", "writer_room")}
@@ -154,45 +50,15 @@ def outcome_of_many(vector):
     return Outcome(output, f"message {fault['done']}: {line}\n".encode(), status)
 
 
-def shortened(octets):
-    """Shows octets as text, or in hexadecimal where they are no text, and no more than the first of them."""
-    if octets is None:
-        return "any octets but none"
-    is_text = octets.isascii() and all(octet >= 32 or octet == 10 for octet in octets)
-    most = 120 if is_text else 60
-    shown = ascii(octets[:most].decode()) if is_text else octets[:most].hex()
-    return f"{shown}.. ({len(octets)} octets)" if len(octets) > most else shown
-
-
-def complaint(wanted, came):
-    """Returns what was wanted and what came, where they differ, and an empty text where they do not."""
-    parts = []
-    for field, show, one, other in zip(Outcome._fields, (shortened, shortened, str), wanted, came):
-        if one != other and (one is not None or not other):
-            parts.append(f"{field}: wanted {show(one)}, came {show(other)}")
-    return "; ".join(parts)
-
-
-def first(compared):
-    """Makes a judge of a function that yields a name, what is wanted and what came: it returns the first complaint, or an empty text."""
-
-    @functools.wraps(compared)
-    def judge(*given, **how):
-        complaints = ((name, complaint(wanted, came)) for name, wanted, came in compared(*given, **how))
-        return next((f"{name}: {differs}" for name, differs in complaints if differs), "")
-
-    return judge
-
-
 @first
-def judge_convert(program, vector, every):
+def judge_convert(program, vector):
     """A message that is refused is refused by each command as by `convert`. E18 comes only if nothing may follow the message."""
     given, again = octets_of(vector, "input"), bytes.fromhex(vector.get("then_forever", ""))
     if "refused" not in vector:
         yield "convert", Outcome(octets_of(vector, "output"), b"", 0), run([program, "convert"], given, again)
         return
     runs = [(words, b"", b"") for words in ("convert", "show", "check", "cover --signer 0")]
-    runs += [("same", octets_of(every[SMALLEST], "output"), b"second: ")]
+    runs += [("same", octets_of(EVERY[SMALLEST], "output"), b"second: ")]
     if vector["refused"]["name"] != "Trailing":
         runs += [("same", b"", b"first: "), ("check --content", b"", b""), ("cover --signer 0 --content", b"", b"")]
     wanted = refused(**vector["refused"])
@@ -201,13 +67,13 @@ def judge_convert(program, vector, every):
         yield f"{words}, {prefix.decode()}", wanted._replace(stderr=prefix + wanted.stderr), came
 
 
-def judge_run(program, vector, every):
+def judge_run(program, vector):
     stdout = vector["stdout_text"].encode() if "stdout_text" in vector else bytes.fromhex(vector["stdout"])
     came = run([program, *vector["args"]], octets_of(vector, "stdin"), **rooms_of(vector))
     return complaint(Outcome(stdout, vector["stderr"].encode(), vector["status"]), came)
 
 
-def judge_cover(program, vector, every):
+def judge_cover(program, vector):
     """Detached content is handed in after the message. The command is asked for signers alone: paths of one number."""
     (signer,) = vector["path"] if "path" in vector else [vector["signer"]]
     is_detached = "detached" in vector
@@ -217,59 +83,59 @@ def judge_cover(program, vector, every):
     return complaint(wanted, run([program, "cover", "--signer", str(signer), *(["--content"] if is_detached else [])], given))
 
 
-def judge_same(program, vector, every):
+def judge_same(program, vector):
     first, second = octets_of(vector, "first"), octets_of(vector, "second")
     return complaint(outcome_of_same(vector), run([program, "same"], first + second))
 
 
-def judge_many(program, vector, every):
+def judge_many(program, vector):
     return complaint(outcome_of_many(vector), run([program, "convert", "--many"], octets_of(vector, "input"), **rooms_of(vector)))
 
 
 # ---- rules for the vectors that they name: for the command, and with other words and another status for the library
 
 @first
-def judge_cuts(program, rule, every, readers=(("convert",),), status=3):
+def judge_cuts(program, rule, readers=(("convert",),), status=3):
     """Each input without its end is refused where it was cut; `ends`: that many first and last cuts alone."""
     for name, reader in itertools.product(rule["vectors"], readers):
-        whole = octets_of(every[name], "input")
+        whole = octets_of(EVERY[name], "input")
         ends = rule.get("ends", len(whole))
         for cut in (it for it in range(len(whole)) if not ends <= it < len(whole) - ends):
             yield f"{name}, {reader[0]}, cut to {cut} octets", refused(1, "Truncated", cut, status), run([program, *reader], whole[:cut])
 
 
 @first
-def judge_again(program, rule, every):
+def judge_again(program, rule):
     for name in rule["vectors"]:
-        output = octets_of(every[name], "output")
+        output = octets_of(EVERY[name], "output")
         yield f"output of {name}", Outcome(output, b"", 0), run([program, "convert"], output)
 
 
 @first
-def judge_failing_reads(program, rule, every, readers=(("convert",),), status=4):
+def judge_failing_reads(program, rule, readers=(("convert",),), status=4):
     """Each reader that fails before the end of the input is a read fault."""
     for name, reader in itertools.product(rule["vectors"], readers):
-        whole = octets_of(every[name], "input")
+        whole = octets_of(EVERY[name], "input")
         for room in range(len(whole)):
             came = run([program, *reader], whole, reader_room=room)
             yield f"{name}, {reader[0]}, a reader that fails after {room} octets", Outcome(b"", b"read fault\n", status), came
 
 
-def conversions(program, rule, every):
+def conversions(program, rule):
     """Gives the name, the command, the input and each DER of a conversion; `many`: of the messages of one vector, one after another."""
     for name in rule.get("vectors") or [rule["many"]]:
-        whole = octets_of(every[name], "input")
+        whole = octets_of(EVERY[name], "input")
         if "many" in rule:
             yield name, [program, "convert", "--many"], whole, [bytes.fromhex(der) for der in rule["ders"]]
         else:
-            yield name, [program, "convert"], whole, [octets_of(every[name], "output")]
+            yield name, [program, "convert"], whole, [octets_of(EVERY[name], "output")]
 
 
 @first
-def judge_failing_writes(program, rule, every):
+def judge_failing_writes(program, rule):
     """Each writer that fails before the end of the output is a write fault, after the octets that it took; for many messages, the line says
     in which one, and after how many of its octets."""
-    for name, words, whole, ders in conversions(program, rule, every):
+    for name, words, whole, ders in conversions(program, rule):
         output, ends = b"".join(ders), [0, *itertools.accumulate(map(len, ders))]
         for room, how in itertools.product(range(len(output)), WRITERS):
             done = bisect.bisect_right(ends, room) - 1
@@ -278,23 +144,9 @@ def judge_failing_writes(program, rule, every):
             yield f"{name}, a writer that fails after {room} octets ({how})", Outcome(output[:room], line.encode(), 4), came
 
 
-def complaint_of_growths(run_without, done, stopped):
-    """Has each call of malloc or realloc refused in turn: one of the outcomes of a run that is stopped comes, and each of them at some
-    call; or all is done without it. `run_without` takes the number of the call."""
-    awaited, harmless = [*stopped], 0
-    for call in itertools.count(1):
-        came = run_without(call)
-        if came not in (done, *stopped):
-            return f"growth {call} refused: {came}"
-        awaited = [outcome for outcome in awaited if outcome != came]
-        harmless = harmless + 1 if came == done else 0
-        if harmless == MOST_NEEDLESS_GROWTHS:
-            return f"no growth that was refused gave {awaited}" if awaited else ""
-
-
-def judge_refused_growths(program, rule, every):
+def judge_refused_growths(program, rule):
     """Out of memory, `convert` writes nothing; and all of several messages before the one in work."""
-    for name, words, whole, ders in conversions(program, rule, every):
+    for name, words, whole, ders in conversions(program, rule):
         stopped = [Outcome(b"".join(ders[:i]), b"out of memory\n", 5) for i in range(len(ders))]
         done = Outcome(b"".join(ders), b"", 0)
         if differs := complaint_of_growths(lambda call: run(refusing({"REFUSED_GROWTH": call}, words), whole), done, stopped):
@@ -303,7 +155,7 @@ def judge_refused_growths(program, rule, every):
 
 
 @first
-def judge_status_of_faults(program, rule, every):
+def judge_status_of_faults(program, rule):
     """Faults of memory, of the reader and of the writer have their statuses, whether or not their lines can be written."""
     faults = [
         ({"REFUSED_GROWTH": 1}, Outcome(b"", b"out of memory\n", 5)),
@@ -313,7 +165,7 @@ def judge_status_of_faults(program, rule, every):
     for name, (how, wanted) in itertools.product(rule["vectors"], faults):
         for script, line in (('exec "$0" convert', wanted.stderr), ('exec "$0" convert 2>/dev/full', b"")):
             words = ["sh", "-c", script.replace("exec", f"exec env {' '.join(settings(how))}"), program]
-            yield f"{name}, {how}, {script}", wanted._replace(stderr=line), run(words, octets_of(every[name], "input"))
+            yield f"{name}, {how}, {script}", wanted._replace(stderr=line), run(words, octets_of(EVERY[name], "input"))
 
 
 JUDGES = {
@@ -324,31 +176,25 @@ JUDGES = {
 NEED_GCC = ("sweep-writes", "refused-growth", "status-of-faults")
 
 
-# ---- choosing the vectors
-
-def read_vectors():
-    """Returns every vector by its name `file/name`, our own ones and those of the files."""
-    every = {}
-    for file in (DATA_FILES / "own.json", *sorted(VECTORS.glob("*.json"))):
-        for vector in json.loads(file.read_text(encoding="utf-8"))["vectors"]:
-            every[f"{file.stem}/{vector['name']}"] = vector
-    return every
-
+# ---- the command
 
 def kind_of(vector):
     """Returns the kind of a vector. A rule in words is known by its name, which may have an ending."""
     return vector["name"].removesuffix("-countersignatures") if vector["kind"] == "rule" else vector["kind"]
 
 
-def why_skipped(vector):
-    """Returns why the vector is not run over the command, or an empty text.
-
-    `library`: it asks what the commands do not offer, so that a test of the libraries has to. `gcc`: it is not installed.
-    """
+def is_of_command(vector):
+    """Whether the vector is asked of the command. What the commands do not offer, the tests of the libraries ask."""
     is_offered = vector.get("limit", LIMIT_OF_VECTORS) == LIMIT_OF_VECTORS and vector.get("tail") != "leave"
-    if kind_of(vector) not in JUDGES or not is_offered or len(vector.get("path", [0])) != 1:
-        return "library"
-    return "gcc" if kind_of(vector) in NEED_GCC and not shutil.which("gcc") else ""
+    return kind_of(vector) in JUDGES and is_offered and len(vector.get("path", [0])) == 1
+
+
+@pytest.mark.parametrize("name", [name for name, vector in EVERY.items() if is_of_command(vector)])
+def test_command(program, name):
+    vector = EVERY[name]
+    if kind_of(vector) in NEED_GCC and not shutil.which("gcc"):
+        pytest.skip("gcc is not installed")
+    fail_if(JUDGES[kind_of(vector)](program, vector))
 
 
 def own_checks():
@@ -361,16 +207,14 @@ def own_checks():
             yield name, script, SMALLEST if check.get("given") else "", wanted
 
 
+@pytest.mark.parametrize("script, given, wanted", [pytest.param(*it, id=name) for name, *it in own_checks()])
+def test_command_line(program, script, given, wanted):
+    fail_if(complaint(wanted, run(["sh", "-c", script, program], octets_of(EVERY[given], "input") if given else b"")))
+
+
 # ---- the limit of the command
 
 LARGEST = 1 << 28  # octets that a message may have, and its DER
-ENCLOSING = [  # of a content: identifier, the octets before what is inside, and those after it
-    (0x30, bytes.fromhex("06092a864886f70d010702"), b""),  # id-signedData
-    (0xA0, b"", b""),
-    (0x30, bytes.fromhex("0201013100"), bytes.fromhex("3100")),  # version, no digest algorithms; no signers
-    (0x30, bytes.fromhex("06092a864886f70d010701"), b""),  # id-data
-    (0xA0, b"", b""),
-]
 LONGER_IN_DER = 2 * len(ENCLOSING)  # octets: a length of five octets stands for one octet and the `00 00` at the end
 SIZES = [  # whether lengths are definite, how many octets the message has, and where it is refused
     (True, LARGEST, None),
@@ -385,7 +229,7 @@ def header_of(ident, length):
     return bytes([ident, 0x84]) + length.to_bytes(4, "big")
 
 
-def write_message(file, length, is_definite):
+def write_message(path, length, is_definite):
     """Writes a message of this length, whose content is zeros, for which the file takes no room."""
     before = after = b""
     for ident, first, last in ENCLOSING:
@@ -393,17 +237,27 @@ def write_message(file, length, is_definite):
         before += (header_of(ident, left - 6) if is_definite else bytes([ident, 0x80])) + first
         after = last + (b"" if is_definite else b"\0\0") + after
     before, after = before + header_of(0x04, length - len(before) - len(after) - 6), after
-    file.write(before)
-    file.truncate(length)
-    file.seek(length - len(after))
-    file.write(after)
-    file.flush()
+    with open(path, "wb") as file:
+        file.write(before)
+        file.truncate(length)
+        file.seek(length - len(after))
+        file.write(after)
 
 
-def told(read, octets):
-    """Returns what the library is to tell of so many octets that it reads, and these that it writes."""
-    return Outcome(octets, f"read {read} written {len(octets)}\n".encode(), 0)
+@pytest.mark.parametrize("is_definite, length, at", SIZES)
+def test_limit(program, tmp_path, is_definite, length, at):
+    """Messages as long as the limit, and longer ones."""
+    given, der = tmp_path / "given", tmp_path / "der"
+    write_message(given, length, is_definite)
+    write_message(der, LARGEST, True)
+    if at is None:
+        wanted, script = Outcome(b"", b"", 0), '{ "$0" convert <"$1" || echo "status $?" >&2; } | cmp - "$2"'
+    else:
+        wanted, script = refused(2, "TooLarge", at), 'exec "$0" convert <"$1"'
+    fail_if(complaint(wanted, run(["sh", "-c", script, program, given, der], b"")))
 
+
+# ---- the library
 
 def told_by_library(vector):
     return refused(**vector["refused"], status=1) if "refused" in vector else told(vector["read"], octets_of(vector, "output"))
@@ -447,9 +301,9 @@ def place_of_too_large(element, limit, begin=0):
 
 
 @first
-def judge_limits(library, rule, every):
+def judge_limits(library, rule):
     """An accepted input is too large under a limit that is one less than its length or that of its DER, which shows at its end."""
-    for name, vector in ((it, every[it]) for it in rule["vectors"]):
+    for name, vector in ((it, EVERY[it]) for it in rule["vectors"]):
         limit, octets = max(vector["read"], vector["written"]), octets_of(vector, "input")
         place = place_of_too_large(element_at(octets), limit - 1)
         less = refused(2, "TooLarge", len(octets) if place is None else place, status=1)
@@ -529,90 +383,45 @@ def judge_time(library, vector):
     return complaint(told(len(text), line.encode()), run([library, "times"], text))
 
 
-def library_complaints(library, every):
-    octets = bytes(range(256)) * 5
-    for name in ALGORITHMS:
-        if (of_python := name.replace("-", "_")) in hashlib.algorithms_available:
-            own = {"algorithm": name, "pieces": [octets.hex()], "digest": hashlib.new(of_python, octets).hexdigest()}
-            yield f"library digest/own/{name}", judge_digest(library, own)
-    two_elements, indefinite = bytes.fromhex("300405000500"), bytes.fromhex("30800000")
-    for word, octets, wanted in (  # ways to read one value
-        ("opaque", two_elements, told(6, b"")), ("opaque", indefinite, refused(13, "OpaqueNotDer", 2, status=1)),
-        ("elements", two_elements, told(6, b"")), ("elements", two_elements[:5], refused(1, "Truncated", 5, status=1)),
-    ):
-        yield f"library {word}/{octets.hex()}", complaint(wanted, run([library, word], octets))
-    for name, vector in every.items():
-        if vector["kind"] in JUDGES_OF_LIBRARY:
-            yield f"library/{name}", JUDGES_OF_LIBRARY[vector["kind"]](library, vector)
-        if vector["kind"] == "run" and vector["args"] == ["show"] and "stdout_text" in vector:
-            yield f"library/{name}", judge_listing(library, vector)
-        if vector["kind"] in JUDGES_OF_SWEEPS:
-            yield f"library/{name}", JUDGES_OF_SWEEPS[vector["kind"]](library, vector, every)
-        if vector["kind"] == "convert" and "output" in vector and "limit" not in vector and vector.get("tail") != "leave":
-            yield f"library limits/{name}", judge_limits(library, {"vectors": [name]}, every)
-            if vector["read"] <= LONGEST_CUT:
-                yield f"library cuts/{name}", judge_cuts(library, {"vectors": [name]}, every, **BY_LIBRARY)
-
-
+TWO_ELEMENTS = bytes.fromhex("300405000500")
 JUDGES_OF_LIBRARY = {
     "read-rest": judge_rest, "digest": judge_digest, "check": judge_check, "check-imprint": judge_imprint, "same": judge_library_same,
     "many": judge_library_many, "tst": judge_tst_info, "time": judge_time, "certificate-identifier": judge_certificate_identifier,
-    "convert": judge_library,
+    "convert": judge_library, "sweep-limits": judge_limits,
 }
 BY_LIBRARY = {"readers": [(reader, str(LIMIT_OF_VECTORS), "refuse", "7") for reader in READERS], "status": 1}
-JUDGES_OF_SWEEPS = {"sweep-limits": judge_limits, "sweep-reads": functools.partial(judge_failing_reads, **BY_LIBRARY)}
+JUDGES_OF_LIBRARY["sweep-reads"] = functools.partial(judge_failing_reads, **BY_LIBRARY)
 
 
-def all_complaints(program, library, every, skipped):
-    """Gives the name and the complaint of each check, an empty one where it passed, and counts what is skipped."""
-    yield from library_complaints(library, every)
-    for name, vector in every.items():
-        why = why_skipped(vector)
-        if why:
-            skipped[why] += 1
-        else:
-            yield name, JUDGES[kind_of(vector)](program, vector, every)
-    # Messages as long as the limit, and longer ones.
-    with tempfile.NamedTemporaryFile() as der:
-        write_message(der, LARGEST, True)
-        for is_definite, length, at in SIZES:
-            with tempfile.NamedTemporaryFile() as file:
-                write_message(file, length, is_definite)
-                if at is None:
-                    wanted, script = Outcome(b"", b"", 0), '{ "$0" convert <"$1" || echo "status $?" >&2; } | cmp - "$2"'
-                else:
-                    wanted, script = refused(2, "TooLarge", at), 'exec "$0" convert <"$1"'
-                came = run(["sh", "-c", script, program, file.name, der.name], b"")
-            yield f"limit/{'definite' if is_definite else 'indefinite'} lengths, {length} octets", complaint(wanted, came)
-    for name, script, given, wanted in own_checks():
-        came = run(["sh", "-c", script, program], octets_of(every[given], "input") if given else b"")
-        yield f"command line/{name}", complaint(wanted, came)
+def questions():
+    """Gives each question to the library about a vector: its name, the judge, and what that is handed."""
+    for name, vector in EVERY.items():
+        if vector["kind"] in JUDGES_OF_LIBRARY:
+            yield name, JUDGES_OF_LIBRARY[vector["kind"]], vector
+        if vector["kind"] == "run" and vector["args"] == ["show"] and "stdout_text" in vector:
+            yield name, judge_listing, vector
+        if vector["kind"] == "convert" and "output" in vector and "limit" not in vector and vector.get("tail") != "leave":
+            yield f"limits/{name}", judge_limits, {"vectors": [name]}
+            if vector["read"] <= LONGEST_CUT:
+                yield f"cuts/{name}", functools.partial(judge_cuts, **BY_LIBRARY), {"vectors": [name]}
 
 
-def program_in(words, built=PROGRAM, how="./cms-canon --help"):
-    """Returns the path of the program that is named first, or of the one that was built; says how to build it if it is not there."""
-    program = os.path.abspath(words[0] if words else built)
-    if os.access(program, os.X_OK):
-        return program
-    return print(f"there is no program {program}: {how} builds it")
+@pytest.mark.parametrize("judge, vector", [pytest.param(*it, id=name) for name, *it in questions()])
+def test_library(library, judge, vector):
+    fail_if(judge(library, vector))
 
 
-def library_in(words):
-    return program_in(words, LIBRARY, "(cd crates/cms_test_driver && rt run <stdin)")
+@pytest.mark.parametrize("algorithm", [it for it in ALGORITHMS if it.replace("-", "_") in hashlib.algorithms_available])
+def test_digest(library, algorithm):
+    octets = bytes(range(256)) * 5
+    digest = hashlib.new(algorithm.replace("-", "_"), octets).hexdigest()
+    fail_if(judge_digest(library, {"algorithm": algorithm, "pieces": [octets.hex()], "digest": digest}))
 
 
-def main(words):
-    program, library = program_in(words), library_in(words[1:])
-    if program is None or library is None:
-        return 1
-    tally, skipped = Tally(), Counter()
-    for name, differs in all_complaints(program, library, read_vectors(), skipped):
-        tally.count(name, differs)
-    for why, count in sorted(skipped.items()):
-        print(f"skipped {count}: {why}")
-    tally.skipped = sum(skipped.values())
-    return tally.end()
-
-
-if __name__ == "__main__":
-    sys.exit(main(sys.argv[1:]))
+@pytest.mark.parametrize("word, octets, wanted", [
+    ("opaque", TWO_ELEMENTS, told(6, b"")), ("opaque", bytes.fromhex("30800000"), refused(13, "OpaqueNotDer", 2, status=1)),
+    ("elements", TWO_ELEMENTS, told(6, b"")), ("elements", TWO_ELEMENTS[:5], refused(1, "Truncated", 5, status=1)),
+])
+def test_value(library, word, octets, wanted):
+    """Ways to read one value."""
+    fail_if(complaint(wanted, run([library, word], octets)))

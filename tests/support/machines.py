@@ -8,7 +8,7 @@ import time
 from pathlib import Path
 from typing import Dict, Iterable, List, NamedTuple, Optional, Tuple
 
-TOP = Path(__file__).resolve().parent.parent
+TOP = Path(__file__).resolve().parents[2]
 CACHE = TOP / "out" / "debian-12"
 SECONDS = 420  # no command may take longer
 DAYS = 14  # after which a base that is kept is made again

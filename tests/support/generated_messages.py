@@ -1,47 +1,37 @@
-#!/usr/bin/env python3
-"""Makes messages at random and spells each in BER at random; compares what the built program writes with their DER.
-
-    python3 tests/generated_messages.py [SEED [MESSAGES]]
+"""Makes messages at random, and spells each in BER at random.
 
 A message is made of parts, each with two spellings: `der`, and `ber`, which takes the liberties that BER gives: lengths in more
 octets than they need or indefinite, the members of sets in any order, strings in segments, TRUE by any octet but 00, FALSE
 written out, zeros after named bits and any unused bits. What a signature covers is put together beside them. All of it is
-written anew from the standards, and shares nothing with the program. Each message is also damaged at one place: it is then
-refused, or what is written for it is written again unchanged. It is compared with itself, spelled twice, and with a message that
-differs from it in one part: they are the same if their DER is. What `show` lists of its DER is what listing.py reads there.
-At the end the messages are converted once more by `convert --many`, in streams of 3 to 50: what is written is their DER, up to the
-first message with a fault. The same seed makes the same messages.
+written anew from the standards, and shares nothing with the program. The same seed makes the same messages.
 
 Signers carry countersignatures, nested down to depth 4. Some messages have a fault in a signer or in a countersignature, such as
 a countersignature at depth 5. A mark follows right after the octets that show the fault: its text is the refusal, and its place
-is the number of octets taken. All of this is tallied as it is spelled, and each of MUST_OCCUR has to be among it.
+is the number of octets taken. All of this is tallied as it is spelled.
 """
 
 import copy
 import re
-import subprocess
-import sys
 from collections import Counter, namedtuple
 from random import Random
 
 from elements import ID_SIGNED_DATA, element, length
-from listing import listing_of
-from run_vectors import PROGRAM, program_in
-from tally import Tally
 
 SEED = 5652
-MESSAGES = 400
 MOST_LEVELS = 8  # constructed encodings of a string inside one another
 MOST_DEPTH = 4  # of a countersignature; that of a signer is at depth 1
 LONG_CONTENT = 300_000  # octets, more than are copied before they are written
-AT_A_TIME = 65_536  # octets of DER that are written together
-MOST_IN_A_STREAM = 50  # messages
 COUNTERSIGNATURE = bytes.fromhex("2a864886f70d010906")
 NEARLY_COUNTERSIGNATURE = (COUNTERSIGNATURE[:-1], COUNTERSIGNATURE[:-1] + b"\7", COUNTERSIGNATURE + b"\1")
-REFUSED = re.compile(rb"refused E[0-9]+ [A-Za-z]+ at [0-9]+\n")
 MARK = re.compile(rb"\x02.(refused E[0-9]+ [A-Za-z]+ at)", re.DOTALL)
 
 spelled = Counter()  # what was spelled in BER, by its name
+
+
+def beginning():
+    """Returns what chooses at random, and forgets what was spelled before: a fault is chosen by that too, so the same messages come each time."""
+    spelled.clear()
+    return Random(SEED)
 
 
 def any_element(random, identifier, contents):
@@ -459,32 +449,6 @@ def changed(random, message):
     return name, other
 
 
-MUST_OCCUR = [
-    *(f"compared with {name}" for name in CHANGES),
-    *(f"a countersignature at depth {depth}, not in DER" for depth in DEPTHS[1:]),
-    *(f"a countersignature with signed attributes at depth {depth}, not in DER" for depth in DEPTHS[1:]),
-    *(f"countersignatures at depth {depth} in another order than in DER" for depth in DEPTHS[1:]),
-    *(f"no countersignature in an attribute, of a signer at depth {depth}" for depth in DEPTHS),
-    "a countersignature twice", "several countersignature attributes of a signer", "an attribute whose type is nearly countersignature",
-    "countersignatures among signed attributes",
-    *dict.fromkeys(fault_name(*fault[:3]) for fault in [*FAULTS, *AT_DEPTH_5]),
-    "a stream",
-    "a stream of short messages with more DER than is written at a time",
-    "a stream with a long message between others", "a stream with a refused message between others",
-]
-
-
-def ran_on(given, *words):
-    """Returns what the program writes, its line and its status."""
-    ran = subprocess.run([PROGRAM, *words], input=given, capture_output=True, timeout=20)
-    return ran.stdout, ran.stderr, ran.returncode
-
-
-def written(words, given):
-    output, line, status = ran_on(given, *words)
-    return output if status == 0 else (status, line)
-
-
 def damaged(random, octets):
     """Returns the octets with one of them changed, left out or doubled."""
     at = random.randrange(len(octets))
@@ -492,97 +456,7 @@ def damaged(random, octets):
     return octets[:at] + there + octets[at + 1 :]
 
 
-def is_refused_or_kept(given):
-    """Whether the octets are refused, or what is written for them is written again unchanged."""
-    answer = written(["convert"], given)
-    if isinstance(answer, bytes):
-        return written(["convert"], answer) == answer
-    return answer[0] == 3 and REFUSED.fullmatch(answer[1]) is not None
-
-
 def due(given, output):
     """Returns what the program is to write: the refusal that a mark in the octets tells, or else the output."""
     mark = MARK.search(given)
     return output if mark is None else (3, b"%s %d\n" % (mark[1], mark.start()))
-
-
-def checks_of(random, spellings):
-    """Gives what was run on a message, on which octets, and whether the program wrote what is due. Each spelling of the message is
-    added to `spellings`, with its DER."""
-    message, detached, covers = random.choice([signed_message, signed_message, request, response])(random)
-    der = message.der()
-    if MARK.search(der) is None:
-        twice = message.ber(random) + message.ber(random)
-        yield "same, spelled twice", twice, ran_on(twice, "same") == (b"same\n", b"", 0)
-        name, other = changed(random, message)
-        other_der = other.der()
-        if written(["convert"], other_der) == other_der:
-            spelled[f"compared with {name}"] += other_der != der
-            both = message.ber(random) + other.ber(random)
-            yield f"same, {name}", both, ran_on(both, "same") == ((b"same\n", b"", 0) if other_der == der else (b"different\n", b"", 1))
-        yield "show", der, written(["show"], der) == listing_of(der).encode()
-    for given in (message.ber(random), message.ber(random), der):
-        spellings.append((given, der))
-        yield "convert", given, written(["convert"], given) == due(given, der)
-        harmed = damaged(random, given)
-        yield "convert, damaged", harmed, is_refused_or_kept(harmed)
-    words, rest = ([], b"") if detached is None else (["--content"], detached)
-    for number, cover in enumerate(covers):
-        came = written(["cover", "--signer", str(number), *words], der + rest)
-        yield f"cover --signer {number}", der, came == due(der, cover)
-
-
-def due_of_stream(stream):
-    """Returns what the program is to write of the messages, one after another: its output, its line and its status."""
-    output = b""
-    for number, (given, der) in enumerate(stream):
-        answer = due(given, der)
-        if not isinstance(answer, bytes):
-            status, line = answer
-            return output, b"message %d: %s" % (number, line), status
-        output += answer
-    return output, b"", 0
-
-
-def streams_of(random, spellings):
-    """Gives streams of the messages, each message in one of them. At times one of them has a refused message in the middle."""
-    accepted = [(given, der) for given, der in spellings if MARK.search(given) is None]
-    refused = [(given, der) for given, der in spellings if MARK.search(given) is not None]
-    random.shuffle(accepted)
-    while accepted:
-        count = random.randint(3, MOST_IN_A_STREAM)
-        stream, accepted = accepted[:count], accepted[count:]
-        if refused and random.random() < 0.4:
-            stream.insert(random.randint(1, len(stream)), random.choice(refused))
-        yield stream
-
-
-def all_checks(random, count):
-    spellings = []
-    for _ in range(count):
-        yield from checks_of(random, spellings)
-
-    for stream in streams_of(random, spellings):
-        given = b"".join(octets for octets, _ in stream)
-        wanted, are_long = due_of_stream(stream), [len(given) > AT_A_TIME for given, _ in stream]
-        spelled["a stream"] += 1
-        spelled["a stream of short messages with more DER than is written at a time"] += len(wanted[0]) > AT_A_TIME and not any(are_long)
-        spelled["a stream with a long message between others"] += any(are_long[1:-1])
-        spelled["a stream with a refused message between others"] += any(MARK.search(given) is not None for given, _ in stream[1:-1])
-        yield "convert --many", given, ran_on(given, "convert", "--many") == wanted
-
-
-def main(words):
-    seed, count = (int(it) for it in [*words, *[SEED, MESSAGES][len(words) :]])
-    if program_in([]) is None:
-        return 1
-    tally = Tally()
-    for name, given, is_well in all_checks(Random(seed), count):
-        tally.count(f"{name}, seed {seed}", "" if is_well else given.hex() or "no octets")
-    for name in MUST_OCCUR if count >= MESSAGES else []:
-        tally.count(f"{name}, seed {seed}", "" if spelled[name] else "it is never spelled")
-    return tally.end()
-
-
-if __name__ == "__main__":
-    sys.exit(main(sys.argv[1:]))
