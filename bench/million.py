@@ -116,7 +116,7 @@ def main(words):
 
 
 if __name__ == "__main__":
-    sys.path.insert(0, str(TOP / "tests"))
+    sys.path.insert(0, str(TOP / "tests" / "support"))
     if sys.argv[1:2] == ["--run"]:
         sys.path.insert(0, sys.argv[2])
         run_of(int(sys.argv[3]), int(sys.argv[4]))

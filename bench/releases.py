@@ -200,7 +200,7 @@ def main(words):
 
 
 if __name__ == "__main__":
-    sys.path[:0] = [str(TOP / "tests"), str(TOP / "bench")]
+    sys.path[:0] = [str(TOP / "tests" / "support"), str(TOP / "bench")]
     if sys.argv[1:2] == ["--run"]:
         run_of(sys.argv[2], sys.argv[3], int(sys.argv[4]), int(sys.argv[5]))
     else:

@@ -1,19 +1,14 @@
-#!/usr/bin/env python3
 """Asks the library for the seconds of each day from 0000-01-01 to 9999-12-31, of each second of two days, and of dates and times
 that do not exist, and compares them with the calendar of Python, which has the years from 1. A year is one check.
 
-    python3 tests/calendar_days.py [LIBRARY]
-
-LIBRARY is cms_test_driver. The year 0 is a leap year of 366 days before 0001-01-01.
+The year 0 is a leap year of 366 days before 0001-01-01.
 """
 
 import datetime
 import itertools
 import subprocess
-import sys
 
-from run_vectors import library_in
-from tally import Tally
+import pytest
 
 SECONDS = 86_400
 EPOCH = datetime.date(1970, 1, 1).toordinal()
@@ -59,8 +54,10 @@ def missing():
             yield f"20240229{time}Z", "NoSuchTime"
 
 
-def judge(tally, library, cases):
+@pytest.mark.built
+def test_days(library, tally):
     """Counts each year of which all lines are told as they should be, and each of which not."""
+    cases = [*existing(), *missing()]
     given = "\n".join(text for text, _ in cases)
     told = subprocess.run([library, "times"], input=given, stdout=subprocess.PIPE, stderr=subprocess.DEVNULL, text=True).stdout
     lines = told.split("\n")[:-1]
@@ -70,15 +67,3 @@ def judge(tally, library, cases):
         tally.count(year, wrong.get(year) and "a text, what was wanted, what came: {}, {}, {}".format(*wrong[year]))
     if len(lines) > len(cases):
         tally.count("more lines", f"{lines[len(cases)]!r}")
-
-
-def main(words):
-    tally, library = Tally(), library_in(words)
-    if library is None:
-        return 1
-    judge(tally, library, [*existing(), *missing()])
-    return tally.end()
-
-
-if __name__ == "__main__":
-    sys.exit(main(sys.argv[1:]))

@@ -1,23 +1,14 @@
-#!/usr/bin/env python3
 """Has openssl verify signatures over the octets that the built program says they cover, before and after conversion.
 
-    python3 tests/covers.py
-
-Keys, certificates and messages are made on the spot, in a folder that is removed afterwards: with RSA and ECDSA, with signed
-attributes and without, attached and detached. examples/verify.py has to see content that was changed. Without openssl all is skipped.
+Keys, certificates and messages are made on the spot: with RSA and ECDSA, with signed
+attributes and without, attached and detached. examples/verify.py has to see content that was changed.
 """
 
-import functools
 import itertools
-import sys
 
-from real_messages import CONFIGURATION, judge_with_tools
-from run_vectors import TOP
-from tally import Tally
-
-sys.path.insert(0, str(TOP / "examples"))
-
-from verify import cms_canon, digests_and_signatures, is_right, verified  # noqa: E402
+import pytest
+from real_messages import CONFIGURATION
+from verify import cms_canon, digests_and_signatures, is_right, verified
 
 CONTENT = b"content of a test\n" * 100
 OTHER = b"content of a fake\n" * 100
@@ -45,23 +36,12 @@ def checks_of(tools, form, words):
         yield "a SET OF", before[:1] == b"\x31"
 
 
-def judge_all(tally, tools):
+@pytest.mark.parametrize("key", KEYS)
+def test_covers(tools, tally, key):
     tools.write("openssl.cnf", CONFIGURATION.encode())
     tools.write("content", CONTENT)
-    for key, words in KEYS.items():
-        tools.make(f"openssl req -x509 -newkey {words} -nodes -keyout key.pem -out cert.pem -subj /CN=signer -days 2")
-        tools.make("openssl x509 -in cert.pem -pubkey -noout -out public.pem")
-        for (form, more), (attributes, others) in itertools.product(FORMS.items(), ATTRIBUTES.items()):
-            for check, is_well in checks_of(tools, form, f"{more} {others}"):
-                tally.count(f"{key}, {form}, {attributes}", "" if is_well else check)
-
-
-def main():
-    tally = Tally()
-    if tally.has("openssl"):
-        judge_with_tools(tally, functools.partial(judge_all, tally))
-    return tally.end(may_skip_all=tally.skipped > 0)
-
-
-if __name__ == "__main__":
-    sys.exit(main())
+    tools.make(f"openssl req -x509 -newkey {KEYS[key]} -nodes -keyout key.pem -out cert.pem -subj /CN=signer -days 2")
+    tools.make("openssl x509 -in cert.pem -pubkey -noout -out public.pem")
+    for (form, more), (attributes, others) in itertools.product(FORMS.items(), ATTRIBUTES.items()):
+        for check, is_well in checks_of(tools, form, f"{more} {others}"):
+            tally.count(f"{key}, {form}, {attributes}", "" if is_well else check)

@@ -1,25 +1,22 @@
-#!/usr/bin/env python3
 """Talks with `convert --many` over real pipes and sockets: a peer that sends a message and waits gets its DER.
-
-    python3 tests/dialogue.py [PROGRAM]
 
 Each message is sent only after the DER of all messages before it has come. So the program writes what it has before it waits for more,
 also if a part of the next message has come already. Messages that came at once are written together, in few calls.
 """
 
-import functools
 import os
 import re
 import select
 import socket
 import subprocess
-import sys
 import threading
 from pathlib import Path
 
+import pytest
 from elements import ID_SIGNED_DATA, INDEFINITE, element, oid
-from run_vectors import PROGRAM, octets_of, read_vectors
-from tally import Tally
+from programs import octets_of, read_vectors
+
+pytestmark = pytest.mark.built
 
 SECONDS = 10  # DER comes within milliseconds; a busy machine may take longer, and a program that keeps it back never writes it
 NAMES = [
@@ -28,6 +25,12 @@ NAMES = [
 ]
 MANY = 10_000  # messages
 MOST_WRITES = 1_000  # for all of them: what is at hand at once is written together
+
+
+@pytest.fixture(scope="module")
+def messages():
+    """Messages in BER, each with its DER."""
+    return [(octets_of(it, "input"), octets_of(it, "output")) for it in map(read_vectors().get, NAMES)]
 
 
 class Failed(Exception):
@@ -86,7 +89,8 @@ class Peer:
             raise Failed(f"it ended with {came}")
 
 
-def one_after_another(program, messages, of_sockets=False):
+@pytest.mark.parametrize("of_sockets", [False, True])
+def test_one_after_another(program, messages, of_sockets):
     """Each message is sent once the DER of the one before has come."""
     with Peer(program, of_sockets) as peer:
         for number, (message, der) in enumerate([*messages, *messages]):
@@ -95,7 +99,7 @@ def one_after_another(program, messages, of_sockets=False):
         peer.ends()
 
 
-def a_part_of_the_next(program, messages):
+def test_a_part_of_the_next(program, messages):
     """With each message comes a part of the next one: its first octet, half of it, all but its last octet."""
     for part in (lambda n: 1, lambda n: n // 2, lambda n: n - 1):
         with Peer(program) as peer:
@@ -123,7 +127,7 @@ def with_a_long_tag(enclosing):
     return enclosing(0x30, ID_SIGNED_DATA, enclosing(0xA0, enclosing(0x30, bytes.fromhex("0201033100"), content, enclosing(0x31, signer))))
 
 
-def a_part_with_a_long_tag(program, messages):
+def test_a_part_with_a_long_tag(program, messages):
     """If the second octet of the tag were read as a length, the zeros would end all elements around it, and the part would seem whole."""
     (message, der), octets = messages[0], with_a_long_tag(indefinite)
     with Peer(program) as peer:
@@ -134,7 +138,7 @@ def a_part_with_a_long_tag(program, messages):
         peer.ends()
 
 
-def some_at_once(program, messages):
+def test_some_at_once(program, messages):
     """All messages are sent at once, and the DER of all of them is awaited before the end."""
     with Peer(program) as peer:
         peer.send(b"".join(message for message, _ in messages))
@@ -142,7 +146,7 @@ def some_at_once(program, messages):
         peer.ends()
 
 
-def octet_by_octet(program, messages):
+def test_octet_by_octet(program, messages):
     """Each octet is sent by itself, and nothing is written before the last one of a message."""
     with Peer(program) as peer:
         for number, (message, der) in enumerate(messages[:3]):
@@ -154,7 +158,7 @@ def octet_by_octet(program, messages):
         peer.ends()
 
 
-def before_a_refusal(program, messages):
+def test_before_a_refusal(program, messages):
     """What is before a message that is refused has come already, and its line says which message it is."""
     with Peer(program) as peer:
         message, der = messages[0]
@@ -164,7 +168,7 @@ def before_a_refusal(program, messages):
         peer.ends(3, b"message 1: refused E7 UnexpectedElement at 4\n")
 
 
-def a_long_batch(program, messages):
+def test_a_long_batch(program, messages):
     """Many messages that come at once are written in few calls, as the kernel counts them, and all before the end of the input."""
     message, der = messages[0]
     with Peer(program) as peer:
@@ -182,27 +186,3 @@ def a_long_batch(program, messages):
         if writes > MOST_WRITES:
             raise Failed(f"{MANY} messages were written in {writes} calls")
         peer.ends()
-
-
-CHECKS = {
-    "one after another": one_after_another, "one after another, over a socket": functools.partial(one_after_another, of_sockets=True),
-    "a part of the next": a_part_of_the_next, "a part with a long tag": a_part_with_a_long_tag, "some at once": some_at_once,
-    "octet by octet": octet_by_octet, "before a refusal": before_a_refusal, "a long batch": a_long_batch,
-}
-
-
-def main(words):
-    program = os.path.abspath(words[0] if words else PROGRAM)
-    every = read_vectors()
-    messages = [(octets_of(every[name], "input"), octets_of(every[name], "output")) for name in NAMES]
-    tally = Tally()
-    for name, check in CHECKS.items():
-        try:
-            tally.count(name, check(program, messages))
-        except (Failed, OSError, subprocess.SubprocessError) as failure:
-            tally.count(name, failure)
-    return tally.end()
-
-
-if __name__ == "__main__":
-    sys.exit(main(sys.argv[1:]))

@@ -1,7 +1,4 @@
-#!/usr/bin/env python3
 """Lets each growth of memory, each read and each write of the built programs fail in turn: nothing is lost, half said or half written.
-
-    python3 tests/faults.py [PROGRAM [LIBRARY]]
 
 Each command is run on messages of the vectors, on messages that openssl made and on messages made at random:
 
@@ -21,6 +18,7 @@ out of memory at least once. What they write if nothing fails is compared in the
 
 import os
 import re
+import shutil
 import subprocess
 import sys
 import tempfile
@@ -28,19 +26,14 @@ from concurrent.futures import ThreadPoolExecutor
 from functools import partial
 from itertools import accumulate, count, product
 from pathlib import Path
-from random import Random
 from typing import NamedTuple
 
-from generated_messages import MARK, request, response, signed_message
-from run_vectors import MOST_NEEDLESS_GROWTHS, RELEASE, TOP, WRITERS, Outcome, built_refusing, complaint_of_growths, first, library_in
-from run_vectors import octets_of, program_in, read_vectors
-from tally import Tally
+import pytest
+from calls import calls
+from generated_messages import MARK, beginning, request, response, signed_message
+from programs import MOST_NEEDLESS_GROWTHS, RELEASE, TOP, WRITERS, Outcome, built_refusing, complaint_of_growths, first, octets_of, read_vectors
+from tally import fail_if
 
-sys.path.insert(0, str(TOP / "scripts"))
-
-from calls import calls  # noqa: E402
-
-SEED = 5652
 AT_RANDOM = 6  # messages
 LONGEST_AT_RANDOM = 400  # octets
 SHORT = 60  # octets: of longer ones, some places alone are tried, among them the first and the last
@@ -62,6 +55,7 @@ FILES_OF_CALLS = ("conversions/token-with-certificate-identifier", "tst-infos/pl
 ITS_OWN = {"convert": b"write fault after 0\n", "at-hand": b"write fault after 0\n", **dict.fromkeys(("same", "times", "tst-info"), b"read fault\n")}
 TIME = b"20261126140000.25Z"
 SET = bytes.fromhex("318004020201020401010401010000")
+EVERY = read_vectors()
 
 
 class Case(NamedTuple):
@@ -73,6 +67,16 @@ class Case(NamedTuple):
     works: tuple = (b"",)  # what it says of each, the last of them also of what is after the messages
     ends: tuple = ()  # of each message in the input
     ders: tuple = ()  # what it writes of each message before the next one is read; none if it writes all in the end
+
+
+@pytest.fixture
+def pool():
+    """Threads, as many as there are processors, that make runs of programs with faults."""
+    if not shutil.which("gcc"):
+        pytest.skip("gcc is not installed")
+    built_refusing()  # once, before there are threads
+    with ThreadPoolExecutor(os.cpu_count()) as threads:
+        yield threads
 
 
 def path_of(folder, octets):
@@ -157,10 +161,10 @@ JUDGES = {"growths": judge_growths, "reads": judge_reads, "paces": judge_paces, 
 
 # ---- the commands and their messages
 
-def named_messages(every):
+def named_messages():
     for name in [*ROWS, *BY_OPENSSL]:
-        yield name, octets_of(every[name], "input")
-    random = Random(SEED)
+        yield name, octets_of(EVERY[name], "input")
+    random = beginning()
     for make in (signed_message, request, response):
         made = 0
         while made < AT_RANDOM // 3:
@@ -171,8 +175,8 @@ def named_messages(every):
                 yield f"{make.__name__} {made}", spelled
 
 
-def cases_of_commands(program, every, folder):
-    messages = list(named_messages(every))
+def cases_of_commands(program, folder):
+    messages = list(named_messages())
     for name, octets in messages:
         for words in (["convert"], ["show"], ["check"], ["cover", "--signer", "0"]):
             yield Case(f"{' '.join(words)} {name}", [program, *words], octets)
@@ -182,7 +186,7 @@ def cases_of_commands(program, every, folder):
     some = messages[:4] + messages[-2:]
     for (name, one), (_, other) in [*zip(some, some), *zip(some, some[1:])]:
         yield Case(f"same {name}", [program, "same"], one + other, (b"first: ", b"second: "), (len(one),))
-    inputs = [octets_of(every[name], "input") for name in ROWS]
+    inputs = [octets_of(EVERY[name], "input") for name in ROWS]
     for some in (inputs[:2], inputs[2:6]):
         ders = [run([program, "convert"], path_of(folder, it)).stdout for it in some]
         works = tuple(f"message {i}: ".encode() for i in range(len(some) + 1))
@@ -199,8 +203,8 @@ def judge_command(case, folder):
 
 # ---- the calls of the library
 
-def cases_of_library(library, every):
-    messages = list(named_messages(every))
+def cases_of_library(library):
+    messages = list(named_messages())
     for name, octets in messages[:9]:
         yield Case(f"convert {name}", [library, "convert", LIMIT, "leave", "7"], octets)
         yield Case(f"check {name}", [library, "check", "bad", "-", "-", "any"], octets)
@@ -214,7 +218,7 @@ def cases_of_library(library, every):
     ):
         yield Case(words, [library, *words.split()], octets)
     for name, words in product(("tst-infos/plain", "tst-infos/millis-999"), ("tst-info", "append tst-info")):
-        yield Case(f"{words} {name}", [library, *words.split()], octets_of(every[name], "input"))
+        yield Case(f"{words} {name}", [library, *words.split()], octets_of(EVERY[name], "input"))
 
 
 def lacks_memory(case, line, octets):
@@ -242,9 +246,9 @@ def judge_library(case, folder):
             return "" if wanted_memory else "it never wants memory"
 
 
-def judge_c(every, folder):
+def judge_c(folder):
     """Each growth of the library is refused, and of none else: one answer is `out of memory`, and all others are as they were."""
-    messages = [octets_of(every[name], "input").hex() for name in ROWS]
+    messages = [octets_of(EVERY[name], "input").hex() for name in ROWS]
     requests = ("convert {0} {1}", "show {0} {1}", "many {0} {1}{1}", "same {0} {1} {1}", "check {0} {1} - - unknown")
     asked = [request.format(LIMIT, octets) for octets in messages for request in requests]
     asked += [f"cover {LIMIT} {messages[2]} 0 616263", f"part {LIMIT} {messages[2]} 0 1"]
@@ -271,7 +275,7 @@ def judge_c(every, folder):
 
 def judge_call(call, files):
     """Each growth of a call of the header is refused: status 5 comes, and nothing is written."""
-    words = [sys.executable, TOP / "tests" / "one_call.py", RELEASE / "libcms_canon.so", call.name, *files]
+    words = [sys.executable, TOP / "tests" / "support" / "one_call.py", RELEASE / "libcms_canon.so", call.name, *files]
     whole = run(words, os.devnull)
     if not whole.stdout.startswith(b"0 "):
         return f"it fails: {whole}"
@@ -279,27 +283,25 @@ def judge_call(call, files):
     return complaint_of_growths(lambda number: refused(REFUSED_GROWTH=number), whole, [Outcome(b"5 nothing\n", b"", 0)])
 
 
-def main(words):
-    tally = Tally()
-    if not tally.has("gcc"):
-        return tally.end(may_skip_all=True)
-    if (program := program_in(words)) is None or (library := library_in(words[1:])) is None:
-        return 1
-    every = read_vectors()
-    built_refusing()  # once, before there are threads
-    with tempfile.TemporaryDirectory() as folder, ThreadPoolExecutor(os.cpu_count()) as pool:
-        for checks in pool.map(lambda case: list(judge_command(case, folder)), cases_of_commands(program, every, folder)):
-            for name, differs in checks:
-                tally.count(name, differs)
-        cases = list(cases_of_library(library, every))
-        for case, differs in zip(cases, pool.map(lambda case: judge_library(case, folder), cases)):
-            tally.count(f"library: {case.name}", differs)
-        tally.count("C", judge_c(every, folder))
-        files = [path_of(folder, octets_of(every[name], "input")) for name in FILES_OF_CALLS]
-        for call, differs in zip(calls(), pool.map(lambda call: judge_call(call, files), calls())):
-            tally.count(f"C: {call.name}", differs)
-    return tally.end()
+@pytest.mark.built
+def test_commands(program, pool, tally, tmp_path):
+    for checks in pool.map(lambda case: list(judge_command(case, tmp_path)), cases_of_commands(program, tmp_path)):
+        for name, differs in checks:
+            tally.count(name, differs)
 
 
-if __name__ == "__main__":
-    sys.exit(main(sys.argv[1:]))
+@pytest.mark.built
+def test_calls_of_the_library(library, pool, tally, tmp_path):
+    cases = list(cases_of_library(library))
+    for case, differs in zip(cases, pool.map(lambda case: judge_library(case, tmp_path), cases)):
+        tally.count(case.name, differs)
+
+
+def test_library_for_c(pool, tmp_path):
+    fail_if(judge_c(tmp_path))
+
+
+def test_calls_of_the_header(pool, tally, tmp_path):
+    files = [path_of(tmp_path, octets_of(EVERY[name], "input")) for name in FILES_OF_CALLS]
+    for call, differs in zip(calls(), pool.map(lambda call: judge_call(call, files), calls())):
+        tally.count(call.name, differs)

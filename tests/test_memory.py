@@ -1,9 +1,6 @@
-#!/usr/bin/env python3
 """Measures the peak of memory and the processor time: what is DER already is written as it came, without a second copy, a segment of a string
 takes eight octets, `check` keeps no content that follows, nothing is gone through again for each signer, and no room is taken for what is
 only claimed.
-
-    python3 tests/memory.py [PROGRAM]
 
 Of each message there is the DER, which is to take little more than its own size, and a spelling in BER, whose DER is collected beside it: what
 that takes is printed alone. `check` digests detached content and stamped data in pieces, so what it takes does not grow with them.
@@ -18,16 +15,15 @@ import subprocess
 import sys
 import tempfile
 from hashlib import sha256
-from pathlib import Path
 
+import findings
+import pytest
+import worst
 from elements import ID_CT_TST_INFO, INDEFINITE, contents_of, element, header, message
-from run_vectors import ENCLOSING, PROGRAM, SMALLEST, TOP, Outcome, complaint, octets_of, read_vectors, run
-from tally import Tally
+from programs import ENCLOSING, SMALLEST, Outcome, complaint, octets_of, read_vectors, run
+from signed_by_digest import ALGORITHM, CONTENT, VERSION, signed_by
 
-sys.path.insert(0, str(TOP / "bench"))
-
-import findings  # noqa: E402
-import worst  # noqa: E402
+pytestmark = pytest.mark.built
 
 SIZE = 16 << 20  # octets of a message, nearly
 MOST_OF_DER = 1.25  # octets of memory for one of a message in DER
@@ -40,9 +36,7 @@ STOPPED = 60  # seconds of processor time after which a run ends
 SIGNERS = 200
 SPARE = 2 << 10  # KiB of address space that a command may take beyond that of `--version`
 
-VERSION, NONE = bytes.fromhex("020103"), bytes.fromhex("3100")
-CONTENT = bytes.fromhex("300b06092a864886f70d010701")
-ALGORITHM = bytes.fromhex("300b0609608648016503040201")
+NONE = bytes.fromhex("3100")
 
 
 def messages():
@@ -56,15 +50,6 @@ def messages():
         for number in range(SIZE // 16500)
     ]
     yield "signers with attributes", message(VERSION + element(0x31, ALGORITHM) + CONTENT + element(0x31, b"".join(signers)))
-
-
-def signed_by(digest, content=b"", signers=1):
-    """Returns a message with content of its own, unless that is detached, which each signer signs by this digest."""
-    kind = element(0x30, bytes.fromhex("06092a864886f70d010903") + element(0x31, bytes.fromhex("06092a864886f70d010701")))
-    message_digest = element(0x30, bytes.fromhex("06092a864886f70d010904") + element(0x31, element(0x04, digest)))
-    signer = element(0x30, VERSION + element(0x80, b"key") + ALGORITHM + element(0xA0, kind + message_digest) + ALGORITHM + element(0x04, bytes(256)))
-    encapsulated = element(0x30, CONTENT[2:] + element(0xA0, element(0x04, content))) if content else CONTENT
-    return message(VERSION + element(0x31, ALGORITHM) + encapsulated + element(0x31, signer * signers))
 
 
 def request(content):
@@ -153,20 +138,7 @@ def cases_of_room():
     yield "check --content", message(VERSION + NONE + element(0x30, ID_CT_TST_INFO) + NONE) + b"content", Outcome(None, b"", 1)
 
 
-def judge_room(tally, program):
-    """No room is taken for what is only claimed, or might follow: each command ends as it does with more address space than it needs."""
-
-    def within(kibibytes, octets, words):
-        return run(["sh", "-c", f'ulimit -v {kibibytes} && exec "$0" "$@"', program, *words.split()], octets)
-
-    least = next(it for it in range(1 << 10, 1 << 20, 64) if within(it, b"", "--version").status == 0)
-    for words, octets, due in cases_of_room():
-        tally.count(f"{words}, {len(octets)} octets: address space", complaint(due, within(least + SPARE, octets, words)))
-
-
-def main(words):
-    program = Path(words[0]) if words else PROGRAM
-    tally = Tally()
+def test_use(program, tally):
     for name, command, octets, due, most in cases():
         status, written, peak, seconds = used_by(program, octets, *command.split())
         used = f"{peak / (1 << 20):.1f} MiB of memory, {peak / len(octets):.2f} octets for each of {len(octets)}; {seconds:.2f} s"
@@ -175,9 +147,14 @@ def main(words):
         tally.count(name, "" if is_due else f"status {status}, {len(written)} octets: {written[:80]}")
         tally.count(f"{name}: memory", "" if peak <= most else used)
         tally.count(f"{name}: time", "" if seconds <= MOST_SECONDS * len(octets) / (1 << 20) else used)
-    judge_room(tally, program)
-    return tally.end()
 
 
-if __name__ == "__main__":
-    sys.exit(main(sys.argv[1:]))
+def test_room(program, tally):
+    """No room is taken for what is only claimed, or might follow: each command ends as it does with more address space than it needs."""
+
+    def within(kibibytes, octets, words):
+        return run(["sh", "-c", f'ulimit -v {kibibytes} && exec "$0" "$@"', program, *words.split()], octets)
+
+    least = next(it for it in range(1 << 10, 1 << 20, 64) if within(it, b"", "--version").status == 0)
+    for words, octets, due in cases_of_room():
+        tally.count(f"{words}, {len(octets)} octets: address space", complaint(due, within(least + SPARE, octets, words)))

@@ -11,7 +11,7 @@ from collections import namedtuple
 from pathlib import Path
 
 from elements import CONSTRUCTED, element as written, element_at, message as message_with
-from generated_messages import COUNTERSIGNATURE, AsItStands, OctetString, Primitive, Sequence, SetOf, parts_of
+from generated_messages import COUNTERSIGNATURE, AsItStands, OctetString, Primitive, Sequence, SetOf
 from programs import DATA_FILES, Outcome, complaint, run, shortened
 
 SECONDS = 60  # no call of a tool may take longer
