@@ -1,8 +1,5 @@
-#!/usr/bin/env python3
-"""Checks what the documents are and lead to; tests/printed.py runs the commands that they print, and tests/lint_repo.py compares them with the
-sources.
-
-    python3 tests/documents.py
+"""Checks what the documents are and lead to; tests/test_printed.py runs the commands that they print, and tests/test_lint.py compares them with
+the sources.
 
 - README.md is at most 9,000 octets, and no sentence of it has more than 30 words.
 - Each link between the files of the repository leads to a file, and each that names a part of one to a heading; docs/README.md names each document
@@ -15,13 +12,13 @@ sources.
 
 import re
 import subprocess
-import sys
-import tempfile
 from pathlib import Path
 
+import pytest
 from elements import element, message as message_of
-from run_vectors import RELEASE, TOP
-from tally import Tally
+from programs import RELEASE, TOP
+
+pytestmark = pytest.mark.tree
 
 PROGRAM = RELEASE / "cms-canon"
 UNITS = TOP / "examples" / "systemd"
@@ -41,7 +38,7 @@ def sentences_of(text):
         yield " ".join(part.split())
 
 
-def check_readme(tally):
+def test_readme(tally):
     text = (TOP / "README.md").read_text(encoding="utf-8")
     octets = len(text.encode())
     tally.count("README.md: length", "" if octets <= MOST_OCTETS else f"{octets} octets, and {MOST_OCTETS} are the most")
@@ -60,7 +57,7 @@ def why_broken(document, link):
     return f"{link}: there is no such heading" if anchor and anchor not in anchors else ""
 
 
-def check_links(tally):
+def test_links(tally):
     listed = subprocess.run(["git", "-C", TOP, "ls-files", "*.md"], capture_output=True, text=True, check=True).stdout.splitlines()
     for document in (TOP / name for name in listed if (TOP / name).exists()):
         text = re.sub(r"^```.*?^```$", "", document.read_text(encoding="utf-8"), flags=re.M | re.S)
@@ -72,7 +69,7 @@ def check_links(tally):
     tally.count("docs/README.md: documents", ", ".join([*missing, *(it for it in of_archive if f"(../{it})" not in index)]))
 
 
-def check_copies(tally):
+def test_copies(tally):
     copy = Path("bindings") / "rust" / "examples" / "message.ber"
     is_same = (TOP / copy).read_bytes() == (TOP / "examples" / "message.ber").read_bytes()
     tally.count(str(copy), "" if is_same else "it is not examples/message.ber")
@@ -100,10 +97,9 @@ def worst_messages(octets):
         yield name, message_of(before, member, after)
 
 
-def check_units(tally):
+def test_units(tally, tmp_path):
     if tally.has("systemd-analyze", "the units for systemd"):
-        with tempfile.TemporaryDirectory() as folder:
-            ended = verified(Path(folder))
+        ended = verified(tmp_path)
         tally.count("systemd: units", "" if (ended.returncode, ended.stderr) == (0, "") else f"status {ended.returncode}: {ended.stderr[:500]}")
     if not tally.has("prlimit", "the limits of the units"):
         return
@@ -119,46 +115,28 @@ def check_units(tally):
         tally.count(f"systemd: {name}", "" if is_so else said)
 
 
-def check_api(tally):
+def test_api(tally, tmp_path):
     if not all([tally.has(it, "scripts/api") for it in ("python3", "javadoc", "cargo")]):
         return
-    with tempfile.TemporaryDirectory() as folder:
-        ended = subprocess.run([TOP / "scripts" / "api", folder], capture_output=True, text=True)
-        tally.count("scripts/api", "" if (ended.returncode, ended.stderr) == (0, "") else f"status {ended.returncode}: {ended.stderr[:500]}")
-        for page, form in (
-            ("c/cms_canon.h", "cms_canon_{}("), ("python/cms_canon.html", 'name="-{}"'), ("java/cmscanon/CmsCanon.html", 'id="{}(byte[]'),
-            ("rust/cms_canon/index.html", "fn.{}.html"),
-        ):
-            text = (Path(folder) / page).read_text(encoding="utf-8") if (Path(folder) / page).exists() else ""
-            calls = ["fields" if it == "read" and page.startswith("c/") else it for it in CALLS]
-            tally.count(f"scripts/api: {page}", ", ".join(it for it in calls if form.format(it) not in text))
+    ended = subprocess.run([TOP / "scripts" / "api", tmp_path], capture_output=True, text=True)
+    tally.count("scripts/api", "" if (ended.returncode, ended.stderr) == (0, "") else f"status {ended.returncode}: {ended.stderr[:500]}")
+    for page, form in (
+        ("c/cms_canon.h", "cms_canon_{}("), ("python/cms_canon.html", 'name="-{}"'), ("java/cmscanon/CmsCanon.html", 'id="{}(byte[]'),
+        ("rust/cms_canon/index.html", "fn.{}.html"),
+    ):
+        text = (tmp_path / page).read_text(encoding="utf-8") if (tmp_path / page).exists() else ""
+        calls = ["fields" if it == "read" and page.startswith("c/") else it for it in CALLS]
+        tally.count(f"scripts/api: {page}", ", ".join(it for it in calls if form.format(it) not in text))
 
 
-def check_proof(tally):
+def test_proof(tally, tmp_path):
     files = [it for it in sorted(TOP.glob("crates/*/specs/**/*.antt")) if "\n--- `" in it.read_text(encoding="utf-8")]
     wanted = {
         "definitions.md": [f"### `{it.relative_to(TOP / 'crates')}`" for it in files],
         "promises.md": [f"`{it.stem}`" for it in sorted(TOP.glob("crates/*/must-fail/*.edit"))],
     }
-    with tempfile.TemporaryDirectory() as folder:
-        ended = subprocess.run([TOP / "scripts" / "proof", folder], capture_output=True, text=True)
-        tally.count("scripts/proof", "" if (ended.returncode, ended.stderr) == (0, "") else f"status {ended.returncode}: {ended.stderr[:500]}")
-        for page, those in wanted.items():
-            text = (Path(folder) / page).read_text(encoding="utf-8") if (Path(folder) / page).exists() else ""
-            tally.count(f"scripts/proof: {page}", ", ".join(it for it in those if it not in text))
-
-
-def main():
-    tally = Tally()
-    if tally.has("git", "all"):
-        check_readme(tally)
-        check_links(tally)
-    check_copies(tally)
-    check_units(tally)
-    check_api(tally)
-    check_proof(tally)
-    return tally.end()
-
-
-if __name__ == "__main__":
-    sys.exit(main())
+    ended = subprocess.run([TOP / "scripts" / "proof", tmp_path], capture_output=True, text=True)
+    tally.count("scripts/proof", "" if (ended.returncode, ended.stderr) == (0, "") else f"status {ended.returncode}: {ended.stderr[:500]}")
+    for page, those in wanted.items():
+        text = (tmp_path / page).read_text(encoding="utf-8") if (tmp_path / page).exists() else ""
+        tally.count(f"scripts/proof: {page}", ", ".join(it for it in those if it not in text))

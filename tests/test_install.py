@@ -1,7 +1,4 @@
-#!/usr/bin/env python3
 """Installs the release in dist/ into an empty folder, uses what was installed, and removes it.
-
-    python3 tests/install.py
 
 It is checked that
 
@@ -19,15 +16,13 @@ import os
 import re
 import shutil
 import subprocess
-import sys
-import tempfile
 import tomllib
 from pathlib import Path
 
 from elements import flipped
 from package_tools import copy_of_repository
-from run_vectors import DATA_FILES, SMALLEST, TOP, octets_of, read_vectors
-from tally import Tally, differing
+from programs import DATA_FILES, SMALLEST, TOP, octets_of, read_vectors
+from tally import differing
 
 DIST = Path("dist") / "x86_64-linux"
 SECONDS = 60  # no run may take longer
@@ -40,6 +35,7 @@ PKG_CONFIG = "lib/pkgconfig/cms_canon.pc"
 LINK = "lib/libcms_canon.so"
 INSTALLED = {*COPIES, PAGE, ARCHIVE_PAGE, PKG_CONFIG, LINK}
 C_PROGRAM = TOP / "tests" / "c" / "installed.c"
+MESSAGE, WANTED = (octets_of(read_vectors()[SMALLEST], it) for it in ("input", "output"))
 
 
 def run(*words, given=b"", **environment):
@@ -119,7 +115,7 @@ def check_completions(tally, prefix):
                 tally.count(name, why_not_done(ended) or differing({*wanted}, came))
 
 
-def check_library(tally, prefix, folder, message, wanted):
+def check_library(tally, prefix, folder):
     flags = [f"-I{prefix}/include", f"-L{prefix}/lib", "-lcms_canon"]
     if tally.has("pkg-config", "pkg-config"):
         ended = run("pkg-config", "--cflags", "--libs", "cms_canon", PKG_CONFIG_PATH=f"{prefix}/lib/pkgconfig")
@@ -130,14 +126,14 @@ def check_library(tally, prefix, folder, message, wanted):
             tally.count(f"a program in C, {kind}: compiled", why_not_done(compiled))
             if compiled.returncode == 0:
                 where = {"LD_LIBRARY_PATH": f"{prefix}/lib"} if kind == "shared" else {}
-                ended = run(folder / kind, given=message, **where)
-                tally.count(f"a program in C, {kind}: run", why_not_done(ended) or differing(wanted, ended.stdout))
+                ended = run(folder / kind, given=MESSAGE, **where)
+                tally.count(f"a program in C, {kind}: run", why_not_done(ended) or differing(WANTED, ended.stdout))
 
 
 # ---- installing and removing
 
-def check_installations(tally, folder, message, wanted):
-    prefix = folder / "prefix"
+def test_installation(tally, tmp_path):
+    prefix = tmp_path / "prefix"
     ended = run(TOP / "install", prefix)
     tally.count("install", why_not_done(ended))
     if ended.returncode != 0:
@@ -145,8 +141,8 @@ def check_installations(tally, folder, message, wanted):
     lines = ended.stdout.decode().splitlines()
     tally.count("it says how programs find the library", "" if "LD_LIBRARY_PATH=" in lines[-1] else f"{lines[-1]!r}")
     check_files(tally, prefix)
-    ended = run(prefix / "bin/cms-canon", "convert", given=message)
-    tally.count("convert", why_not_done(ended) or differing(wanted, ended.stdout))
+    ended = run(prefix / "bin/cms-canon", "convert", given=MESSAGE)
+    tally.count("convert", why_not_done(ended) or differing(WANTED, ended.stdout))
     formats = (TOP / "docs" / "FORMATS.md").read_text(encoding="utf-8")
     page = (prefix / PAGE).read_text(encoding="ascii")
     for number, name in re.findall(r"^\| (E[0-9]+) \| (\w+) \|", formats, re.MULTILINE):
@@ -162,7 +158,7 @@ def check_installations(tally, folder, message, wanted):
             is_well = lines and max(map(len, lines)) <= 80
             tally.count(f"{name}: 80 columns", why_not_done(shown) or ("" if is_well else "a line is longer, or none is there"))
     check_completions(tally, prefix)
-    check_library(tally, prefix, folder, message, wanted)
+    check_library(tally, prefix, tmp_path)
     before = (prefix / "lib/libcms_canon.so.0").stat().st_ino
     again = run(TOP / "install", prefix, LD_LIBRARY_PATH=f"{prefix}/lib")
     tally.count("install again", why_not_done(again) or differing(1, len(again.stdout.splitlines())))
@@ -178,8 +174,8 @@ def check_installations(tally, folder, message, wanted):
         tally.count(f"{name}: one line", differing(1, len(ended.stdout.splitlines())))
 
 
-def check_space(tally, folder, message, wanted):
-    prefix, inside = folder / "a prefix", folder / "inside"
+def test_space(tally, tmp_path):
+    prefix, inside = tmp_path / "a prefix", tmp_path / "inside"
     inside.mkdir()
     tally.count("a prefix with a space", why_not_done(run(TOP / "install", prefix)))
     if tally.has("pkg-config", "a prefix with a space: pkg-config") and tally.has("gcc", "a prefix with a space: gcc"):
@@ -187,15 +183,15 @@ def check_space(tally, folder, message, wanted):
         script = f'eval "gcc -o program {C_PROGRAM.name} $(pkg-config --cflags --libs cms_canon)"'
         built = run("sh", "-c", f"cd '{inside}' && {script}", PKG_CONFIG_PATH=f"{prefix}/lib/pkgconfig")
         tally.count("a prefix with a space: compiled", why_not_done(built))
-        ended = run(inside / "program", given=message, LD_LIBRARY_PATH=f"{prefix}/lib")
-        tally.count("a prefix with a space: run", why_not_done(ended) or differing(wanted, ended.stdout))
+        ended = run(inside / "program", given=MESSAGE, LD_LIBRARY_PATH=f"{prefix}/lib")
+        tally.count("a prefix with a space: run", why_not_done(ended) or differing(WANTED, ended.stdout))
     ended = run(TOP / "install", "--uninstall", prefix)
     tally.count("a prefix with a space: uninstall", why_not_done(ended) or differing(set(), files_below(prefix)))
 
 
-def check_destdir(tally, folder):
+def test_destdir(tally, tmp_path):
     """The prefix has what sed could take for a command."""
-    prefix, staged = f"{folder}/a|b&c", f"{folder}/staged"
+    prefix, staged = f"{tmp_path}/a|b&c", f"{tmp_path}/staged"
     ended = run(TOP / "install", prefix, DESTDIR=staged)
     tally.count("DESTDIR", why_not_done(ended) or differing(1, len(ended.stdout.splitlines())))
     check_files(tally, Path(staged + prefix), prefix)
@@ -211,8 +207,8 @@ def why_not_refused(ended, wanted, target):
     return "something was installed" if target.is_dir() and files_below(target) else ""
 
 
-def check_refusals(tally, folder):
-    target = folder / "target"
+def test_refusals(tally, tmp_path):
+    folder, target = tmp_path, tmp_path / "target"
     (folder / "file").write_bytes(b"")
     ended = run(TOP / "install", folder / "file")
     tally.count("a prefix that is a file", why_not_refused(ended, "cannot be written", target))
@@ -238,29 +234,11 @@ def check_refusals(tally, folder):
     tally.count("no release", why_not_refused(run(copy / "install", target), "no release", target))
 
 
-def check_words(tally, folder):
+def test_words(tally, tmp_path):
     """DESTDIR is set, so that nothing is installed elsewhere if one of these words is taken for a prefix."""
     for words in (["--unknown"], ["--uninstall", "--unknown"], [""], ["one", "two"]):
-        ended = run(TOP / "install", *words, DESTDIR=f"{folder}/words/")
+        ended = run(TOP / "install", *words, DESTDIR=f"{tmp_path}/words/")
         is_well = ended.returncode == 2 and not ended.stdout and ended.stderr.startswith(b"usage: ./install")
         tally.count(f"the words {words}", "" if is_well else told(ended))
     ended = run(TOP / "install", "--help")
     tally.count("help", why_not_done(ended) or ("" if b"usage: ./install" in ended.stdout else "it has no usage"))
-
-
-def main():
-    tally = Tally()
-    vector = read_vectors()[SMALLEST]
-    with tempfile.TemporaryDirectory() as name:
-        folder = Path(name).resolve()
-        check_installations(tally, folder, octets_of(vector, "input"), octets_of(vector, "output"))
-        if (TOP / DIST).is_dir():
-            check_space(tally, folder, octets_of(vector, "input"), octets_of(vector, "output"))
-            check_destdir(tally, folder)
-            check_refusals(tally, folder)
-        check_words(tally, folder)
-    return tally.end()
-
-
-if __name__ == "__main__":
-    sys.exit(main())

@@ -1,7 +1,4 @@
-#!/usr/bin/env python3
 """Compares what docs/OTHER-TOOLS.md says of other tools with what they do.
-
-    python3 tests/other_tools.py
 
 Each row of its table is a message that is made here of examples/message.ber, and each column a tool that is to convert it. A tool that is
 missing is skipped by its name, and so is one of another release than the document names.
@@ -11,16 +8,15 @@ import json
 import re
 import shutil
 import subprocess
-import sys
-import tempfile
 from pathlib import Path
 from typing import Callable, NamedTuple, Optional
 
+import pytest
 from countersignatures import JARS
 from elements import element, message as message_of
 from real_messages import SIGNED_ATTRIBUTES, signed_attributes, signed_data_of, signer_infos
-from run_vectors import RELEASE, TOP
-from tally import Tally
+from programs import RELEASE, TOP
+from tally import differing, fail_if
 
 PROGRAM = RELEASE / "cms-canon"
 DOCUMENT = TOP / "docs" / "OTHER-TOOLS.md"
@@ -120,7 +116,7 @@ def bouncycastle(folder):
     return "" if compiled is None else release_in(str(jar.resolve()).encode(), r"-(\d+\.\d+)\.jar$")
 
 
-def tools(folder):
+def tools_in(folder):
     openssl = release_in(output_of("openssl", "version"), r"^OpenSSL (\d+\.\d+)")
     asn1crypto = release_in(output_of(DEBIAN_PYTHON, "-c", "import asn1crypto; print(asn1crypto.__version__)"), r"^(\d+\.\d+)")
     return {
@@ -137,23 +133,21 @@ def table():
     return head[1:], {row[0]: dict(zip(head[1:], row[1:])) for row in rows}
 
 
-def main():
-    tally = Tally()
-    with tempfile.TemporaryDirectory(prefix="other-tools-") as folder:
-        head, rows = table()
-        cases_by_row, found = cases(), tools(Path(folder))
-        if {*rows} != {*cases_by_row} or head != [*found]:
-            tally.count("the table", "its rows or columns are not those of this test")
-        for name, tool in found.items():
-            if tool.found != tool.release:
-                tally.skip(name, f"the document is about {tool.release}, and here is {tool.found or 'none'}")
-                continue
-            for row, case in cases_by_row.items():
-                said, written = rows.get(row, {}).get(name), tool.convert(case.octets)
-                came = "refused" if written is None else case.meanings.get(written, f"{len(written)} other octets")
-                tally.count(f"{name}, {row}", "" if came == said else f"the document says {said}, and it is {came}")
-    return tally.end()
+NAMES = ["cms-canon", "openssl", "asn1crypto", "BouncyCastle"]
 
 
-if __name__ == "__main__":
-    sys.exit(main())
+def test_table():
+    head, rows = table()
+    fail_if(differing((NAMES, {*cases()}), (head, {*rows})))
+
+
+@pytest.mark.parametrize("name", NAMES)
+def test_tool(tally, tmp_path, name):
+    _, rows = table()
+    tool = tools_in(tmp_path)[name]
+    if tool.found != tool.release:
+        pytest.skip(f"{name}: the document is about {tool.release}, and here is {tool.found or 'none'}")
+    for row, case in cases().items():
+        said, written = rows.get(row, {}).get(name), tool.convert(case.octets)
+        came = "refused" if written is None else case.meanings.get(written, f"{len(written)} other octets")
+        tally.count(f"{name}, {row}", "" if came == said else f"the document says {said}, and it is {came}")

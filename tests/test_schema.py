@@ -1,24 +1,19 @@
-#!/usr/bin/env python3
 """Tests that bindings/records.toml is refused if it is wrong, and that a line there is a field in each language.
-
-    python3 tests/schema.py
 
 Each edit breaks one rule of the schema. The refusal has to be the one that names the place and the rule, and no other. Then a line for a field is added,
 of a kind that the header does not have yet: the texts for Python, Rust and Java have to have this field in addition, and nothing else.
 """
 
 import difflib
-import sys
-from pathlib import Path
 
-from tally import Tally, differing
+import bindings
+import kinds
+import pytest
+import schema
+from programs import TOP
+from tally import differing, fail_if
 
-TOP = Path(__file__).resolve().parent.parent
-sys.path.insert(0, str(TOP / "scripts"))
-
-import bindings  # noqa: E402
-import kinds  # noqa: E402
-import schema  # noqa: E402
+pytestmark = pytest.mark.tree
 
 TEXT = (TOP / schema.SCHEMA).read_text(encoding="utf-8")
 STATUS = 'status = { kind = "STATUS", type = "integer", says = "'
@@ -107,14 +102,15 @@ def refusal_of(text):
     return "nothing is refused"
 
 
-def count_refusals(tally):
-    tally.count("the schema as it is", differing("nothing is refused", refusal_of(TEXT)))
-    for before, after, why in EDITS:
-        wanted = "\n".join(f"{schema.SCHEMA}: {it}" for it in why.splitlines())
-        came = refusal_of(TEXT.replace(before, after, 1))
-        if why.endswith(LINE_OF_TOML):
-            came = came[: len(wanted)]
-        tally.count(why, differing(wanted, came))
+def test_schema_as_it_is():
+    fail_if(differing("nothing is refused", refusal_of(TEXT)))
+
+
+@pytest.mark.parametrize("before, after, why", EDITS)
+def test_refusal(before, after, why):
+    wanted = "\n".join(f"{schema.SCHEMA}: {it}" for it in why.splitlines())
+    came = refusal_of(TEXT.replace(before, after, 1))
+    fail_if(differing(wanted, came[: len(wanted)] if why.endswith(LINE_OF_TOML) else came))
 
 
 def texts_of(known):
@@ -126,27 +122,14 @@ def texts_of(known):
     }
 
 
-def count_field(tally):
+def test_field(tally, monkeypatch):
     before, known = texts_of(schema.schema()), schema.kinds
-    schema.kinds = lambda: [*known(), kinds.Kind("NOTE", "0x5d", "contents: a note")]
-    try:
+    with monkeypatch.context() as changed:
+        changed.setattr(schema, "kinds", lambda: [*known(), kinds.Kind("NOTE", "0x5d", "contents: a note")])
         after = texts_of(schema.schema_in(TEXT + LINE))
-    finally:
-        schema.kinds = known
     for name, lines in after.items():
         added = [it[2:] for it in difflib.ndiff(before[name], lines) if it.startswith("+ ") and it[2:]]
         tally.count(f"a field of {name}", differing(ADDED[name], added))
     by_hand = "    // A method.\n}\n"
     kept = bindings.Java(schema.schema()).file(schema.schema().records["Accuracy"], by_hand)
     tally.count("what is written by hand", "" if kept.endswith(bindings.MARK + by_hand) else f"came {kept!r}")
-
-
-def main():
-    tally = Tally()
-    count_refusals(tally)
-    count_field(tally)
-    return tally.end()
-
-
-if __name__ == "__main__":
-    sys.exit(main())

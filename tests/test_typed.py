@@ -1,20 +1,17 @@
-#!/usr/bin/env python3
 """Checks that the packages for Python have the types that they say: mypy finds nothing in them, and finds what is wrong on purpose.
-
-    python3 tests/typed.py
 
 They are `cms_canon` and `cms_canon_archive`, checked as strictly as mypy can. tests/data/mypy.ini says which packages of others have no types.
 """
 
+import shutil
 import subprocess
 import sys
-import tempfile
 import tomllib
 from pathlib import Path
 
-from tally import Tally
+import pytest
+from programs import TOP
 
-TOP = Path(__file__).resolve().parent.parent
 PACKAGES = {"cms_canon": "bindings/python/", "cms_canon_archive": "archive/"}
 CACHE = TOP / "out" / "mypy"
 DEBIAN_PYTHON = Path("/usr/bin/python3")  # for which Debian's packages are, whose types count too
@@ -37,25 +34,17 @@ def complaints(*words):
     return lines or ([] if ended.returncode == 0 else [f"status {ended.returncode}: {(ended.stdout + ended.stderr)[-500:]}"])
 
 
-def main():
-    tally = Tally()
-    if not tally.has("mypy", "types of the packages for Python"):
-        return tally.end(may_skip_all=True)
+@pytest.mark.tree
+def test_types(tally, tmp_path):
+    if not shutil.which("mypy"):
+        pytest.skip("mypy is not installed")
     if missing := not_installed():
-        tally.skip("types of the packages for Python", f"{', '.join(missing)} not installed for {PYTHON}")
-        return tally.end(may_skip_all=True)
+        pytest.skip(f"{', '.join(missing)} not installed for {PYTHON}")
     found = complaints(*(word for package in PACKAGES for word in ("-p", package)))
     for package, folder in PACKAGES.items():
         tally.count(f"types of {package}", "".join(f"\n  {line}" for line in found if line.startswith(folder)))
     tally.count("what mypy says of all else", "".join(f"\n  {line}" for line in found if not line.startswith((*PACKAGES.values(),))))
-    with tempfile.NamedTemporaryFile("w", suffix=".py", encoding="ascii") as file:
-        file.write(WRONG)
-        file.flush()
-        found = complaints(file.name)
+    (tmp_path / "wrong.py").write_text(WRONG, encoding="ascii")
+    found = complaints(tmp_path / "wrong.py")
     is_found = len(found) == 1 and found[0].endswith(':5: error: Incompatible return value type (got "bytes", expected "int")  [return-value]')
     tally.count("a wrong type", "" if is_found else str(found))
-    return tally.end()
-
-
-if __name__ == "__main__":
-    sys.exit(main())

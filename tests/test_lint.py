@@ -1,7 +1,4 @@
-#!/usr/bin/env python3
 """Checks that the documents say of the sources what is so.
-
-    python3 tests/lint_repo.py
 
 Each count that they state is right, whatever scripts/generate writes is up to date, and the sketches are code that compiles. Each edit has a promise
 or belongs to one, each definition that a contract names has words, and each script says what it does. Each public function is called by a test, no two
@@ -15,19 +12,16 @@ import re
 import subprocess
 import sys
 import tomllib
-from pathlib import Path
 
-from tally import Tally
-
-TOP = Path(__file__).resolve().parent.parent
-sys.path.insert(0, str(TOP / "scripts"))
-
-from antt import Module, definitions_of, note_imports  # noqa: E402
-from calls import SYMBOLS, calls  # noqa: E402
-from clauses import clauses_of, is_statement, record_of  # noqa: E402
-from commands import commands, tests_and_benches  # noqa: E402
-from definitions import described, half_said, misplaced, named_in  # noqa: E402
-from promises import complaints as complaints_between_edits  # noqa: E402
+import pytest
+from antt import Module, definitions_of, note_imports
+from calls import SYMBOLS, calls
+from clauses import clauses_of, is_statement, record_of
+from commands import commands, tests_and_benches
+from definitions import described, half_said, misplaced, named_in
+from programs import TOP
+from promises import complaints as complaints_of_edits  # noqa: F401 (by its name, as the others)
+from tally import fail_if
 
 RATTLE = "".join(it.read_text() for it in sorted(TOP.glob("crates/*/src/*.rt")))
 
@@ -42,11 +36,6 @@ IDENTIFIER = re.compile(r"0x(?:0[12346]|18|3[01]|a[0-3])\b|<0x8[0-9a-f]")
 FUNCTION = re.compile(r" *pub fn (\w+)")
 DEFINITION = re.compile(r" *(?:(?:abbrev|unfoldable) pub|pub (?:record|data)) (\S+)")
 SKETCH = re.compile(r"^```(?:text|rust)\n(.*?)^```$", re.M | re.S)
-
-
-def complaints_of_edits():
-    """Yields each edit that has no promise and belongs to none, and each that is named and is not there."""
-    yield from complaints_between_edits()
 
 
 def complaints_of_wrong_bodies():
@@ -486,13 +475,7 @@ def complaints_of_commands():
             yield from (f"{file} does not have {form.format(name)}" for name in names if form.format(name) not in by_hand)
 
 
-def main():
-    tally = Tally()
-    for name, complaints in globals().copy().items():
-        if name.startswith("complaints_of_"):
-            tally.count(name.removeprefix("complaints_of_").replace("_", " "), "".join(f"\n  {it}" for it in complaints()))
-    return tally.end()
-
-
-if __name__ == "__main__":
-    sys.exit(main())
+@pytest.mark.tree
+@pytest.mark.parametrize("name", [it.removeprefix("complaints_of_") for it in globals() if it.startswith("complaints_of_")])
+def test_sources(name):
+    fail_if("\n".join(globals()[f"complaints_of_{name}"]()))
