@@ -1,9 +1,6 @@
-#!/usr/bin/env python3
 """Compares what is released, in dist/, with what was just proved and built, and tries ./cms-canon as a fresh clone has it.
 
-    python3 tests/release.py BUILT
-
-BUILT is a copy of this repository in which the crates were proved and built. What a release of it would be is written to
+--built names a copy of this repository in which the crates were proved and built. What a release of it would be is written to
 out/candidate, from where scripts/release takes it.
 
 - dist/ is made from these sources, and each of its files has the SHA-256 that its MANIFEST names.
@@ -18,23 +15,25 @@ import re
 import shutil
 import subprocess
 import sys
-import tempfile
 import time
 from pathlib import Path
 
+import pytest
+from checked_crates import Crate
 from machines import tools_without
-from mutation_tests import Crate, crates_in
-from run_vectors import LIBRARY, RELEASE, SMALLEST, TOP, octets_of, read_vectors
-from tally import Tally
+from packages.crates import crates_in
+from programs import RELEASE, SMALLEST, TOP, octets_of, read_vectors
+from tally import count, fail_if
+
+pytestmark = pytest.mark.release
 
 CANDIDATE = TOP / "out" / "candidate"
-MEND = "run scripts/release and commit dist/"
+AGAIN = "run scripts/release and commit dist/"
 PARTS = ("cms-canon", "scripts", "bindings", "crates.txt", "crates", "dist")  # what ./cms-canon rests on
 AT_ONCE = 1.0  # seconds
 ATTEMPTS = 10  # since a disk that is busy can take longer than that
-
-tally = Tally()
-count = tally.count
+VECTOR = read_vectors()[SMALLEST]
+OCTETS, WANTED = octets_of(VECTOR, "input"), octets_of(VECTOR, "output")
 
 
 def run(*words, **how):
@@ -70,37 +69,41 @@ def assembled(built):
     return values_of(CANDIDATE / "MANIFEST")
 
 
-def compare(built):
+def test_readme():
+    is_left = re.search(r"\bEDITS\b", (TOP / "README.md").read_text(encoding="utf-8"))
+    fail_if("EDITS is still where a number is to be filled in" if is_left else "")
+
+
+def test_released(built, tally):
     candidate = assembled(built)
     if not (RELEASE / "MANIFEST").exists():
-        return count("released", f"there is no {RELEASE / 'MANIFEST'}: {MEND}")
+        return count("released", f"there is no {RELEASE / 'MANIFEST'}: {AGAIN}")
     values, digests = values_of(RELEASE / "MANIFEST")
     for name in digests:
         kept = run("sha256sum", RELEASE / name).stdout.decode().split(" ")[0]
-        count(f"released/{name}", "" if kept == digests[name] else f"its SHA-256 is not that of its MANIFEST: {MEND}")
+        count(f"released/{name}", "" if kept == digests[name] else f"its SHA-256 is not that of its MANIFEST: {AGAIN}")
     if candidate is None:
-        return None
+        return
     made, made_digests = candidate
-    count("sources", "" if made["sources"] == values["sources"] else f"dist/ is made from other sources: {MEND}")
+    count("sources", "" if made["sources"] == values["sources"] else f"dist/ is made from other sources: {AGAIN}")
     tools = [it for it in ("kit", "strip", "objcopy") if made[it] != values.get(it)]
     if tools:
         print("octets are not compared: dist/ is made with " + "; ".join(f"{values.get(it)}, and this is {made[it]}" for it in tools))
-        words = [TOP / "tests" / "run_vectors.py", RELEASE / "cms-canon", built / LIBRARY.relative_to(TOP)]
-        last = run(sys.executable, *words).stdout.decode().splitlines()[-1:]
+        words = ["-m", "pytest", "-q", TOP / "tests" / "test_vectors.py", "--program", RELEASE / "cms-canon", "--built", built]
+        last = run(sys.executable, *words, cwd=TOP).stdout.decode().splitlines()[-1:]
         counted = re.fullmatch(r"(\d+) passed, 0 failed.*", last[0] if last else "")
         count("vectors on the released program", "" if counted else f"ended in {last}")
-    count("files", "" if {*digests} == {*made_digests} else f"the files of dist/ are not those of a release: {MEND}")
+    count("files", "" if {*digests} == {*made_digests} else f"the files of dist/ are not those of a release: {AGAIN}")
     for name in sorted({*digests} & {*made_digests}):
         same = (RELEASE / name).read_bytes() == (CANDIDATE / name).read_bytes()
-        count(f"octets/{name}", "" if same else f"the file in dist/ is not what was proved and built: {MEND}")
-    return None
+        count(f"octets/{name}", "" if same else f"the file in dist/ is not what was proved and built: {AGAIN}")
 
 
 class Clone:
     """A copy of the repository, in which there is no build, and no `rt` on the PATH."""
 
     def __init__(self, folder):
-        self.top = Path(folder, "clone")
+        self.top = folder / "clone"
         self.top.mkdir()
         for part in PARTS:
             source, to = TOP / part, self.top / part
@@ -108,57 +111,62 @@ class Clone:
                 shutil.copytree(source, to, ignore=shutil.ignore_patterns("out", "must-fail"))
             else:
                 shutil.copy(source, to)
-        self.tools = tools_without(Path(folder, "tools"), "rt", "/usr/bin:/bin")
+        self.tools = tools_without(folder / "tools", "rt", "/usr/bin:/bin")
 
-    def convert(self, octets, **environment):
+    def convert(self, **environment):
         """Returns the output, the status, what is said on the standard error, and the seconds."""
         began = time.monotonic()
-        ended = run(self.top / "cms-canon", "convert", input=octets, env={"PATH": str(self.tools), **environment})
+        ended = run(self.top / "cms-canon", "convert", input=OCTETS, env={"PATH": str(self.tools), **environment})
         return ended.stdout, ended.returncode, ended.stderr.decode(), time.monotonic() - began
 
 
-def try_front():
-    """Tries ./cms-canon in copies, each from the state of a fresh clone."""
-    vector = read_vectors()[SMALLEST]
-    octets, wanted = octets_of(vector, "input"), octets_of(vector, "output")
-    source = Path("crates", "cms_tlv", "src", "header.rt")
+@pytest.fixture
+def clone(tmp_path):
+    """A copy in the state of a fresh clone."""
+    return Clone(tmp_path)
 
-    def is_refused(name, clone, says, **environment):
-        output, status, said, _ = clone.convert(octets, **environment)
-        is_so = (output, status) == (b"", 69) and says in said and "rt is not on the PATH" in said
-        count(f"./cms-canon/{name}", "" if is_so else f"status {status}, said {said!r}")
 
-    def is_right(name, clone, is_first=False):
-        for _ in range(ATTEMPTS):
-            if is_first:
-                shutil.rmtree(clone.top / "out", ignore_errors=True)
-            output, status, said, seconds = clone.convert(octets)
-            print(f"./cms-canon, {name}: {seconds * 1000:.0f} ms")
-            if seconds < AT_ONCE:
-                break
-        is_so = (output, status, said) == (wanted, 0, "") and seconds < AT_ONCE
-        count(f"./cms-canon/{name}", "" if is_so else f"status {status}, said {said!r}, {seconds:.2f} s")
+def is_refused(name, clone, says, **environment):
+    output, status, said, _ = clone.convert(**environment)
+    is_so = (output, status) == (b"", 69) and says in said and "rt is not on the PATH" in said
+    count(f"./cms-canon/{name}", "" if is_so else f"status {status}, said {said!r}")
 
-    with tempfile.TemporaryDirectory(prefix="release-") as folder:
-        clone = Clone(folder)
-        is_right("the first call", clone, is_first=True)
-        is_right("a later call", clone)
-        is_refused("asked for the sources", clone, "CMS_CANON_FROM_SOURCE is set", CMS_CANON_FROM_SOURCE="1")
-        try_builds(clone, octets, wanted)
-        before = (clone.top / source).read_bytes()
-        (clone.top / source).write_bytes(before + b"// a change\n")
-        is_refused("a changed source", clone, "the sources are not those that it was made from")
-        is_refused("a changed source, once more", clone, "the sources are not those that it was made from")
-        (clone.top / source).write_bytes(before)
-        is_right("the source as it was", clone)
-        (clone.top / source).unlink()
-        is_refused("a missing source", clone, "the sources are not those that it was made from")
-        (clone.top / source).write_bytes(before)
-        program = clone.top / "dist" / "x86_64-linux" / "cms-canon"
-        altered = bytearray(program.read_bytes())
-        altered[len(altered) // 2] ^= 1
-        program.write_bytes(altered)
-        is_refused("an altered program", clone, "its SHA-256 is not that of its MANIFEST")
+
+def is_right(name, clone, is_first=False):
+    for _ in range(ATTEMPTS):
+        if is_first:
+            shutil.rmtree(clone.top / "out", ignore_errors=True)
+        output, status, said, seconds = clone.convert()
+        print(f"./cms-canon, {name}: {seconds * 1000:.0f} ms")
+        if seconds < AT_ONCE:
+            break
+    is_so = (output, status, said) == (WANTED, 0, "") and seconds < AT_ONCE
+    count(f"./cms-canon/{name}", "" if is_so else f"status {status}, said {said!r}, {seconds:.2f} s")
+
+
+def test_calls(clone, tally):
+    is_right("the first call", clone, is_first=True)
+    is_right("a later call", clone)
+    is_refused("asked for the sources", clone, "CMS_CANON_FROM_SOURCE is set", CMS_CANON_FROM_SOURCE="1")
+
+
+def test_changes(clone, tally):
+    is_right("before a change", clone)
+    source = clone.top / "crates" / "cms_tlv" / "src" / "header.rt"
+    before = source.read_bytes()
+    source.write_bytes(before + b"// a change\n")
+    is_refused("a changed source", clone, "the sources are not those that it was made from")
+    is_refused("a changed source, once more", clone, "the sources are not those that it was made from")
+    source.write_bytes(before)
+    is_right("the source as it was", clone)
+    source.unlink()
+    is_refused("a missing source", clone, "the sources are not those that it was made from")
+    source.write_bytes(before)
+    program = clone.top / "dist" / "x86_64-linux" / "cms-canon"
+    altered = bytearray(program.read_bytes())
+    altered[len(altered) // 2] ^= 1
+    program.write_bytes(altered)
+    is_refused("an altered program", clone, "its SHA-256 is not that of its MANIFEST")
 
 
 # In the place of the Rattle kit: what it is to build is the released program.
@@ -169,7 +177,7 @@ mkdir -p out
 """
 
 
-def try_builds(clone, octets, wanted):
+def test_builds(clone, tally):
     """Tries what ./cms-canon does around a build from the sources, with a command `rt` that proves nothing."""
     kit = clone.tools.parent / "kit"
     kit.mkdir()
@@ -178,27 +186,11 @@ def try_builds(clone, octets, wanted):
     released = clone.top / "dist" / "x86_64-linux" / "cms-canon"
     how = {"CMS_CANON_FROM_SOURCE": "1", "PATH": f"{kit}:{clone.tools}", "RELEASED": str(released)}
     for refused in ("lib", "run"):
-        output, status, said, _ = clone.convert(octets, REFUSED=refused, **how)
+        output, status, said, _ = clone.convert(REFUSED=refused, **how)
         is_so = (output, status) == (b"", 70) and "could not be built" in said
         count(f"./cms-canon/a build whose {refused} fails", "" if is_so else f"status {status}, said {said!r}")
-    output, status, said, _ = clone.convert(octets, **how)
-    is_so = (output, status) == (wanted, 0) and said.endswith("cms-canon: built\n")
+    output, status, said, _ = clone.convert(**how)
+    is_so = (output, status) == (WANTED, 0) and said.endswith("cms-canon: built\n")
     count("./cms-canon/a build", "" if is_so else f"status {status}, said {said!r}")
-    output, status, said, _ = clone.convert(octets, **how)
-    count("./cms-canon/what was built", "" if (output, status, said) == (wanted, 0, "") else f"status {status}, said {said!r}")
-    shutil.rmtree(clone.top / "crates" / "cms_canon_program" / "out")
-
-
-def main(words):
-    is_left = re.search(r"\bEDITS\b", (TOP / "README.md").read_text(encoding="utf-8"))
-    count("README", "EDITS stands where a number is to be filled in" if is_left else "")
-    compare(Path(words[0]).resolve())
-    if (RELEASE / "MANIFEST").exists():
-        try_front()
-    return tally.end()
-
-
-if __name__ == "__main__":
-    if len(sys.argv) != 2:
-        sys.exit(__doc__)
-    sys.exit(main(sys.argv[1:]))
+    output, status, said, _ = clone.convert(**how)
+    count("./cms-canon/what was built", "" if (output, status, said) == (WANTED, 0, "") else f"status {status}, said {said!r}")

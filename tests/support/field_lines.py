@@ -5,10 +5,9 @@ countersignature begin with its path.
 """
 
 from collections import namedtuple
-from random import Random
 
 from elements import token_around
-from generated_messages import SEED, due, request, response, signed_message
+from generated_messages import beginning, due, request, response, signed_message
 from listing import truth
 from programs import line_of, octets_of, read_vectors
 from walk import COUNTERSIGNATURE, TST_INFO, contents_of_integer, countersignatures_of, fields_of, fields_of_tst_info
@@ -127,7 +126,7 @@ Case = namedtuple("Case", "name message detached lines")
 def cases():
     """Gives each message of a conversion, each content of a token, and messages made at random. A content that no vector of these names is
     a TSTInfo if a message says that it is one."""
-    vectors, random = read_vectors(), Random(SEED)
+    vectors, random = read_vectors(), beginning()
     known = {octets_of(it, "input"): it["ok"] for it in vectors.values() if it["kind"] == "tst"}
     for name, vector in vectors.items():
         if vector["kind"] == "tst":

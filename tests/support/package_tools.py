@@ -8,12 +8,9 @@ from datetime import datetime
 from pathlib import Path
 
 from machines import ended
+from packages.crates import of_kit
 
 TOP = Path(__file__).resolve().parents[2]
-sys.path.insert(0, str(TOP / "packaging"))
-
-from packages.crates import of_kit  # noqa: E402
-
 DIST = TOP / "dist"
 BINARIES = DIST / "x86_64-linux"
 PACKAGES = DIST / "packages"
