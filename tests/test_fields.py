@@ -1,10 +1,7 @@
-#!/usr/bin/env python3
 """Asks the released library where the fields of messages lie, and the Python package what they are, and compares what comes with
 what walk.py finds, a reader of its own.
 
-    python3 tests/fields.py [MESSAGES]
-
-The messages are all octets in the vectors, those that openssl, gpgsm and BouncyCastle make for the other scripts, tokens whose
+The messages are all octets in the vectors, those that openssl, gpgsm and BouncyCastle make for the other tests, tokens whose
 TSTInfo is changed, and MESSAGES made at random, ten spellings in BER of each value: signed messages with countersignatures,
 requests, responses and tokens. Of each it is checked that
 
@@ -14,31 +11,27 @@ requests, responses and tokens. Of each it is checked that
 - each attribute of the object is what the walk finds, and so is what `to_json` writes;
 - the content of a token is refused as a TSTInfo if `show` says that it is none.
 
-Each kind of row has to occur, and each field that may be absent has to be absent somewhere.
+In the messages made at random each kind of row has to occur, and each field that may be absent has to be absent somewhere.
 """
 
 import ctypes
-import functools
 import json
-import shutil
 import struct
 import sys
-import tempfile
 from collections import Counter, namedtuple
 from datetime import datetime
-from pathlib import Path
 from random import Random
 from typing import NamedTuple
 
 import countersignatures
 import generated_messages
-import real_messages
 import openssl_tokens
+import pytest
+import real_messages
 from elements import ID_CT_TST_INFO, element as written, message as message_of, oid, token_around
 from generated_messages import SEED, OctetString, Primitive, Sequence, TrueOrAbsent, any_opaque, sometimes
-from real_messages import judge_with_tools
-from run_vectors import RELEASE, VECTORS
-from tally import Tally
+from programs import RELEASE, VECTORS
+from tst_model import tst_info_of
 from walk import KINDS, TST_INFO, Row, countersignatures_of, fields_of, fields_of_tst_info, parts_of
 
 MESSAGES = 20_000
@@ -58,7 +51,6 @@ OPTIONAL = {  # what may be absent, by the row that is there all the same
     "ACCURACY": ("SECONDS", "MILLIS", "MICROS"),
 }
 seen = Counter()  # kinds of rows that a message has, and pairs of one that it has and one that it has not
-
 
 ROW = struct.Struct("=QQII")
 UNTOUCHED = b"\xa5"
@@ -131,6 +123,11 @@ class Library:
 
 
 Asker = namedtuple("Asker", "library package")
+
+
+@pytest.fixture
+def asker(package):
+    return Asker(Library(), package)
 
 
 # ---- what is wrong with what is said of a message: the first thing, or an empty text
@@ -317,7 +314,7 @@ def octets_in(value):
             yield from octets_in(it)
 
 
-def judge_vectors(tally, asker):
+def test_vectors(asker, tally):
     """All octets in the vectors, as a message and as the content of a token."""
     found = {octets for file in sorted(VECTORS.glob("*.json")) for octets in octets_in(json.loads(file.read_text()))} - {b""}
     for octets in sorted(found):
@@ -325,7 +322,7 @@ def judge_vectors(tally, asker):
         judge(tally, asker, "vector in a token", token_around(octets))
 
 
-def judge_tools(tally, asker, tools):
+def test_tools(asker, tools, tally):
     """What openssl and gpgsm make, and tokens of openssl with one field of the TSTInfo changed."""
     made = openssl_tokens.make_all(tools)
     for message in real_messages.all_messages(tools, tally):
@@ -334,13 +331,15 @@ def judge_tools(tally, asker, tools):
     for name, token in made.items():
         for kind in ("request", "response", "token"):
             judge(tally, asker, f"{name}, {kind}", getattr(token, kind))
-    for name, content, findings in openssl_tokens.contents_changed(openssl_tokens.tst_info_of(made["full-sha256"].token)):
+    for name, content, findings in openssl_tokens.contents_changed(tst_info_of(made["full-sha256"].token)):
         complaint, _ = judge_tst_info(asker, content, "13" not in findings)
         tally.count(f"content/{name}", complaint)
         judge(tally, asker, f"token/{name}", token_around(content))
 
 
-def judge_countersignatures(tally, asker, tools):
+def test_countersignatures(asker, tools, tally):
+    if missing := countersignatures.missing_for_java():
+        return tally.skip("BouncyCastle", f"{', '.join(missing)} not installed")
     countersignatures.make_keys(tools)
     countersignatures.build_java(tools)
     random, plans = Random(SEED), [*countersignatures.plans()]
@@ -390,13 +389,14 @@ def spelled_by_name(part, random):
     return part.part.ber(random)
 
 
-def judge_generated(tally, asker, count):
-    generated_messages.LONG_CONTENT = 5_000  # longer ones take their time, and have no other fields
-    generated_messages.Tallied.ber = spelled_by_name
-    generated_messages.Countersignatures.any_order = generated_messages.SetOf.any_order
-    random = Random(SEED)
+def test_generated(asker, tally, monkeypatch):
+    monkeypatch.setattr(generated_messages, "LONG_CONTENT", 5_000)  # longer ones take their time, and have no other fields
+    monkeypatch.setattr(generated_messages.Tallied, "ber", spelled_by_name)
+    monkeypatch.setattr(generated_messages.Countersignatures, "any_order", generated_messages.SetOf.any_order)
+    seen.clear()
+    random = generated_messages.beginning()
     makers = [generated_messages.signed_message] * 2 + [generated_messages.request, generated_messages.response, any_token]
-    for index in range(count // SPELLINGS):
+    for index in range(MESSAGES // SPELLINGS):
         message, detached, _ = random.choice(makers)(random)
         spellings = [message.ber(random) for _ in range(SPELLINGS - 1)]
         for given in (*spellings, message.der()):
@@ -405,9 +405,14 @@ def judge_generated(tally, asker, count):
         content, is_right = any_tst_info(random)
         complaint, _ = judge_tst_info(asker, content, is_right)
         tally.count(f"TSTInfo {index}", complaint and f"{complaint}, of {content.hex()}")
+    for name, kind in KINDS.items():
+        tally.count(f"{name} occurs", "" if seen[kind] else "in no message")
+    for name, others in OPTIONAL.items():
+        for other in others:
+            tally.count(f"{other} is absent", "" if seen[name, other] else f"in no message with {name}")
 
 
-def judge_names(tally, asker):
+def test_names(asker, tally):
     """The package has the names that `show` has, for each object identifier that it knows and for others."""
     oids = [*sys.modules["cms_canon._names"].NAMES, "2.999.3", "1.2.840.113549.1.9.16.2.14"]
     algorithms = b"".join(written(0x30, oid(it)) for it in oids)
@@ -416,36 +421,3 @@ def judge_names(tally, asker):
     wanted = [(oid, None if name == "-" else name) for oid, name, _ in lines]
     came = [(it.oid, it.name) for it in asker.package.read(message).digest_algorithms]
     tally.count("names", differ("names", wanted, came) or differ("named", len(oids) - 2, sum(name is not None for _, name in came)))
-
-
-def judge_seen(tally):
-    for name, kind in KINDS.items():
-        tally.count(f"{name} occurs", "" if seen[kind] else "in no message")
-    for name, others in OPTIONAL.items():
-        for other in others:
-            tally.count(f"{other} is absent", "" if seen[name, other] else f"in no message with {name}")
-
-
-def judge_made(tally, asker):
-    for judges, needs in ((judge_tools, ("openssl",)), (judge_countersignatures, ("openssl", "java", "javac"))):
-        missing = [it for it in needs if not shutil.which(it)]
-        if missing:
-            tally.skip(judges.__name__, f"{', '.join(missing)} not installed")
-        else:
-            judge_with_tools(tally, functools.partial(judges, tally, asker))
-
-
-def main(words):
-    tally = Tally()
-    with tempfile.TemporaryDirectory() as home:
-        asker = Asker(Library(), countersignatures.package(Path(home)))
-        judge_names(tally, asker)
-        judge_vectors(tally, asker)
-        judge_made(tally, asker)
-        judge_generated(tally, asker, int(words[0]) if words else MESSAGES)
-    judge_seen(tally)
-    return tally.end()
-
-
-if __name__ == "__main__":
-    sys.exit(main(sys.argv[1:]))

@@ -1,11 +1,9 @@
-#!/usr/bin/env python3
 """Has the verifier of the Python package, `cms_canon.verifier`, judge signatures that openssl, gpgsm and `cryptography` make.
 
-    python3 tests/verifier.py
+It needs the package `cryptography`, of any release from 38 on. If the `python3` on the PATH is another one than that of the tests, all of this is
+tried by its `cryptography` too.
 
-It needs the package `cryptography`, of any release from 38 on: ./run-tests calls it with each python3 that may have another one.
-
-- Each message of tests/real_messages.py, and one for each kind of key and each digest that openssl takes, and for each of its curves: as
+- Each message of tests/support/real_messages.py, and one for each kind of key and each digest that openssl takes, and for each of its curves: as
   it is, with one octet of a signature changed, with one octet of what is covered changed, without the certificate, with the certificate
   handed in, and with an algorithm that nobody knows.
 - Messages that `cryptography` makes, and signatures of it under each identifier of an algorithm that the tools do not write, in
@@ -19,23 +17,21 @@ import importlib
 import itertools
 import re
 import sys
-import tempfile
 import time
 import tomllib
 import tracemalloc
 import warnings
 from collections import Counter, namedtuple
-from pathlib import Path
 from random import Random
 from unittest import mock
 
+import pytest
 import real_messages
-from countersignatures import package
-from elements import flipped, message as message_with, oid
+from elements import element_at, flipped, message as message_with, oid
 from generated_messages import SEED
-from real_messages import CONTENTS, ToolFault, element_at, judge_with_tools, signed_attributes, signer_infos, written
-from run_vectors import DATA_FILES
-from tally import Tally, differing as differs
+from programs import DATA_FILES
+from real_messages import CONTENTS, ToolFault, signed_attributes, signer_infos, written
+from tally import count, differing as differs
 
 CONTENT = b"The octets that are signed.\r\n"
 SPOILT = 500  # keys of each kind
@@ -45,8 +41,8 @@ NOT_KNOWN = [None]
 
 
 class Asker:
-    def __init__(self, folder, tally):
-        self.library, self.tally = package(Path(folder)), tally
+    def __init__(self, package):
+        self.library = package
         self.by_certificates = importlib.import_module("cms_canon.verifier").by_certificates
 
     def verdicts(self, octets, certificates=(), content=None, verifier=None, **how):
@@ -68,13 +64,25 @@ class Asker:
 
     def count(self, name, wanted, octets, *given, **how):
         """Counts whether the verdicts are those that are wanted."""
-        self.tally.count(name, differs(wanted, self.verdicts(octets, *given, **how)))
+        count(name, differs(wanted, self.verdicts(octets, *given, **how)))
 
     def count_altered(self, name, wanted, octets, *given, number=0):
         """Counts the same of each message in which an octet is changed that matters to this signer, unless it is refused."""
         for what, altered in alterations(octets, number):
             if not isinstance(self.verdicts(altered, *given), str):
                 self.count(f"{name}, {what}", wanted, altered, *given)
+
+
+@pytest.fixture(scope="module")
+def asker(package):
+    pytest.importorskip("cryptography")
+    return Asker(package)
+
+
+@pytest.fixture(scope="module")
+def keys():
+    pytest.importorskip("cryptography")
+    return Keys()
 
 
 def signature_of(signer):
@@ -116,7 +124,7 @@ def with_algorithm(octets, change):
 
 # ---- messages of tools
 
-# Messages of tests/real_messages.py whose certificate is not in them.
+# Messages of tests/support/real_messages.py whose certificate is not in them.
 LACKING = {"one-signer-twice", "no-certificates", "stamp-without-certificates", "gpgsm-no-certificates"}
 
 
@@ -160,31 +168,52 @@ def make_key(tools, name, how):
     tools.write(f"{name}.pem", tools.read(f"{name}.crt") + tools.read(f"{name}.key"))
 
 
-def judge_keys(tally, asker, tools):
-    """Each kind of key with each digest that openssl takes for it; with those for PSS too."""
-    tools.make("openssl dsaparam -out dsa.parameters 2048")
-    for number, (name, how) in enumerate(KEYS.items()):
-        make_key(tools, f"key{number}", how)
-        came = Counter()
-        for digest, attributes in itertools.product(DIGESTS, ("", " -noattr")):
-            words = f"{SIGN.format(f'key{number}')} -md {digest}{attributes}"
-            came[digest] += judge_signed(asker, tools, f"{name}, {digest}{attributes}", words)
-        tally.count(f"{name}: openssl signs by SHA-256", "" if came["sha256"] == 2 else "it does not")
+def make_keys(tools, *names):
+    tools.make("openssl dsaparam -out dsa.parameters 2048") if "DSA" in names else None
+    for name in names:
+        make_key(tools, file_of(name), KEYS[name])
+
+
+def file_of(key):
+    """Returns the name of the files of a key."""
+    return f"key{[*KEYS].index(key)}"
+
+
+def test_real_messages(tally, asker, authority):
+    for message in real_messages.all_messages(authority, tally):
+        judge_real_message(tally, asker, authority, message)
+    judge_gpgsm_digests(tally, asker, authority)
+
+
+@pytest.mark.parametrize("name", KEYS)
+def test_keys(tally, asker, authority, name):
+    """Each kind of key with each digest that openssl takes for it."""
+    make_keys(authority, name)
+    came = Counter()
+    for digest, attributes in itertools.product(DIGESTS, ("", " -noattr")):
+        words = f"{SIGN.format(file_of(name))} -md {digest}{attributes}"
+        came[digest] += judge_signed(asker, authority, f"{name}, {digest}{attributes}", words)
+    tally.count(f"{name}: openssl signs by SHA-256", "" if came["sha256"] == 2 else "it does not")
+
+
+def test_pss_of_openssl(tally, asker, authority):
+    make_keys(authority, "RSA")
     for more in PSS:
-        judge_signed(asker, tools, f"RSASSA-PSS{more}", f"{SIGN.format('key0')} -keyopt rsa_padding_mode:pss{more}")
+        judge_signed(asker, authority, f"RSASSA-PSS{more}", f"{SIGN.format(file_of('RSA'))} -keyopt rsa_padding_mode:pss{more}")
 
 
-def judge_other_makers(tally, asker, tools):
+def test_other_makers(tally, asker, authority):
     """openssl verifies what gpgsm and the JDK write, NULL after an algorithm of ECDSA or DSA, and what iText does, the kind of the key."""
-    for key, digest in (("key3", "sha1"), ("key4", "sha384"), ("key6", "sha256")):
-        octets = tools.make(f"{SIGN.format(key)} -md {digest}")
+    make_keys(authority, "P-256", "P-384", "DSA")
+    for key, digest in ((file_of("P-256"), "sha1"), (file_of("P-384"), "sha384"), (file_of("DSA"), "sha256")):
+        octets = authority.make(f"{SIGN.format(key)} -md {digest}")
         changes = {"NULL": lambda algorithm: algorithm + NULL}
-        if key != "key6":
+        if key != file_of("DSA"):
             changes |= {"id-ecPublicKey": lambda _: oid(EC_PUBLIC_KEY), "id-ecPublicKey and NULL": lambda _: oid(EC_PUBLIC_KEY) + NULL}
         for what, change in changes.items():
             altered = with_algorithm(octets, change)
-            tools.write("altered.der", altered)
-            came = tools.make("openssl cms -verify -binary -noverify -inform DER -in altered.der")
+            authority.write("altered.der", altered)
+            came = authority.make("openssl cms -verify -binary -noverify -inform DER -in altered.der")
             tally.count(f"{key}, {digest}, {what}: openssl", differs(CONTENTS["content.txt"], came))
             asker.count(f"{key}, {digest}, {what}", RIGHT, altered)
             asker.count_altered(f"{key}, {digest}, {what}", WRONG, altered)
@@ -204,45 +233,45 @@ def judge_signed(asker, tools, name, words):
     return True
 
 
-def judge_curves(tally, asker, tools):
+def test_curves(tally, asker, authority):
     """Each curve of openssl: the verdict is right if `cryptography` can load the key, and else not known, but never wrong."""
     from cryptography.hazmat.primitives.serialization import load_pem_public_key
 
     came = Counter()
-    for curve in re.findall(r"^ *(\S+) *:", tools.make("openssl ecparam -list_curves").decode(), re.M):
+    for curve in re.findall(r"^ *(\S+) *:", authority.make("openssl ecparam -list_curves").decode(), re.M):
         try:
-            make_key(tools, "curve", f"ec -pkeyopt ec_paramgen_curve:{curve}")
-            octets = tools.make(SIGN.format("curve"))
+            make_key(authority, "curve", f"ec -pkeyopt ec_paramgen_curve:{curve}")
+            octets = authority.make(SIGN.format("curve"))
         except ToolFault:
             continue  # some are too small, or for other algorithms
         try:
-            wanted = load_pem_public_key(tools.make("openssl x509 -in curve.crt -pubkey -noout")) and True
+            wanted = load_pem_public_key(authority.make("openssl x509 -in curve.crt -pubkey -noout")) and True
         except Exception:
             wanted = None
         came[wanted] += 1
         asker.count(f"the curve {curve}", [wanted], octets)
     tally.count("curves", "" if came[True] and came[None] else f"there are not both known and unknown ones: {came}")
-    make_key(tools, "explicit", "ec -pkeyopt ec_paramgen_curve:P-256 -pkeyopt ec_param_enc:explicit")
-    octets = tools.make(SIGN.format("explicit"))
+    make_key(authority, "explicit", "ec -pkeyopt ec_paramgen_curve:P-256 -pkeyopt ec_param_enc:explicit")
+    octets = authority.make(SIGN.format("explicit"))
     tally.count("a curve in explicit parameters", "" if asker.verdicts(octets) in (RIGHT, NOT_KNOWN) else "wrong")
 
 
-def judge_restricted_keys(tally, asker, tools):
+def test_restricted_keys(tally, asker, authority):
     """Keys that are for RSASSA-PSS alone, some with parameters. openssl 3.0 writes rsaEncryption into a message for them."""
-    make_key(tools, "pss", "rsa-pss -pkeyopt rsa_keygen_bits:2048")
-    make_key(tools, "pss384", "rsa-pss -pkeyopt rsa_keygen_bits:2048 -pkeyopt rsa_pss_keygen_md:sha384"
+    make_key(authority, "pss", "rsa-pss -pkeyopt rsa_keygen_bits:2048")
+    make_key(authority, "pss384", "rsa-pss -pkeyopt rsa_keygen_bits:2048 -pkeyopt rsa_pss_keygen_md:sha384"
              " -pkeyopt rsa_pss_keygen_mgf1_md:sha384 -pkeyopt rsa_pss_keygen_saltlen:32")
-    octets = tools.make(SIGN.format("pss"))
+    octets = authority.make(SIGN.format("pss"))
     algorithm = signer_infos(octets)[0].members[-2].octets
     asker.count("a key for RSASSA-PSS, as openssl writes it", NOT_KNOWN if oid(RSA) in algorithm else RIGHT, octets)
-    tools.write("covered", CONTENT)
+    authority.write("covered", CONTENT)
     for key, digest, salt, is_taken in (
         ("pss", "sha256", 32, True), ("pss", "sha1", 20, True), ("pss384", "sha384", 32, True), ("pss384", "sha384", 48, True),
         ("pss384", "sha384", 31, False), ("pss384", "sha256", 32, False),  # openssl does not sign these
     ):
         words = f"openssl dgst -{digest} -sign {key}.key -sigopt rsa_padding_mode:pss -sigopt rsa_pss_saltlen:{salt} covered"
-        signature = tools.make(words) if is_taken else bytes(256)
-        certificate = certificate_of(tools.make(f"openssl pkey -in {key}.key -pubout -outform DER"))
+        signature = authority.make(words) if is_taken else bytes(256)
+        certificate = certificate_of(authority.make(f"openssl pkey -in {key}.key -pubout -outform DER"))
         due = DIGEST_ALGORITHMS[digest]
         algorithm = algorithm_of(RSASSA_PSS, pss_parameters(due, due, salt))
         for name, given, wanted in (("", signature, RIGHT), (", a signature changed", flipped(signature, 9), WRONG)):
@@ -350,7 +379,7 @@ def key_octets(key):
     return key.public_key().public_bytes(Encoding.DER, PublicFormat.SubjectPublicKeyInfo)
 
 
-def judge_identifiers(tally, asker, keys):
+def test_identifiers(tally, asker, keys):
     """Each identifier of a signature algorithm, with its digest and a key for it."""
     cases = ((dotted, getattr(keys, kind), digest) for kind, those in ALGORITHMS["signatures"].items() for dotted, digest in those.items())
     for dotted, key, digest in cases:
@@ -419,7 +448,7 @@ def pss_cases(keys):
     yield "a salt without octets", pss_parameters(sha256, sha256, b""), ("sha256", "sha256", 0), NOT_KNOWN
 
 
-def judge_pss(tally, asker, keys):
+def test_pss(tally, asker, keys):
     certificate, name, due = certificate_of(key_octets(keys.rsa)), "parameters of digestAlgorithm", algorithm_of(f"{NIST}.2.1", integer(1))
     for case, parameters, how, wanted in pss_cases(keys):
         octets = message_of(keys.signed_by_pss(*how), [certificate], algorithm_of(RSASSA_PSS, parameters), DIGEST_ALGORITHMS[how[0]])
@@ -523,7 +552,7 @@ def judge_dsa_keys(asker, keys):
         asker.count(f"certificates: a key of DSA, {name}", wanted, octets, [certificate_of(key)])
 
 
-def judge_certificates(tally, asker, keys):
+def test_certificates(tally, asker, keys):
     signature = keys.signed(keys.rsa, "sha256")
     for it in (*cases_of_certificates(keys), *cases_of_keys(keys)):
         octets = message_of(it.signature or signature, it.certificates, signer=it.signer)
@@ -546,7 +575,7 @@ def judge_certificates(tally, asker, keys):
             tally.count(name, "" if said in str(came) else repr(came))
 
 
-def judge_nothing_calculated(tally, asker, keys):
+def test_nothing_calculated(tally, asker, keys):
     """Signatures that are no two numbers in DER, keys that are no points, and a modulus too short for the digest are not known."""
     from cryptography.hazmat.primitives.asymmetric.utils import decode_dss_signature
 
@@ -573,7 +602,7 @@ def judge_nothing_calculated(tally, asker, keys):
         asker.count(f"a modulus of 512 bits, {digest}", wanted, message_of(bytes(64), [short], due=DIGEST_ALGORITHMS[digest]))
 
 
-def judge_spoilt_keys(tally, asker, keys):
+def test_spoilt_keys(tally, asker, keys):
     """Keys with some octets changed at random: nothing is raised, and no signature is right by another key."""
     random = Random(SEED)
     for dotted, key, digest in (
@@ -602,7 +631,7 @@ def judge_spoilt_keys(tally, asker, keys):
         tally.count(f"{dotted}, keys with octets changed", complaint or ("" if are_both else f"came {came}"))
 
 
-def judge_memory(tally, asker, keys):
+def test_memory(tally, asker, keys):
     """A certificate of a million members takes little more memory than its octets."""
     certificate = certificate_of(key_octets(keys.rsa))
     parts = [it.octets for it in element_at(certificate, 0).members]
@@ -621,7 +650,7 @@ def judge_memory(tally, asker, keys):
         tally.count(f"the memory of a million {name}", "" if most < 10 * len(octets) else f"{most} octets")
 
 
-def judge_many(tally, asker, keys):
+def test_many(tally, asker, keys):
     """One verifier does not mix up the certificates of several messages, and reads each once for all signers."""
     signature = keys.signed(keys.rsa, "sha256")
     right, other = (certificate_of(key_octets(it), extensions=extensions_of(extension())) for it in (keys.rsa, keys.other))
@@ -641,7 +670,7 @@ def judge_many(tally, asker, keys):
         tally.count("many signers, certificates read", differs(2, read.call_count))
 
 
-def judge_serial_numbers(tally, asker, keys):
+def test_serial_numbers(tally, asker, keys):
     """Numbers that Python's dictionaries do not tell apart quickly take no longer than others."""
 
     def seconds(step):
@@ -655,7 +684,7 @@ def judge_serial_numbers(tally, asker, keys):
     tally.count("serial numbers with one hash", "" if alike < 3 * others else f"{alike:.2f} s, and {others:.2f} s with others")
 
 
-def judge_warnings(tally, asker, keys):
+def test_warnings(tally, asker, keys):
     """Warnings that are errors do not make a verifier raise anything."""
     certificate = certificate_of(rsa_key_octets((1 << 511) + 1, 65537))
     octets = message_of(bytes(64), [certificate], due=DIGEST_ALGORITHMS["sha1"])
@@ -665,7 +694,7 @@ def judge_warnings(tally, asker, keys):
     tally.count("a small key", "" if came in (WRONG, NOT_KNOWN) else repr(came))
 
 
-def judge_pkcs7(tally, asker, keys):
+def test_pkcs7(tally, asker, keys):
     from cryptography import x509
     from cryptography.hazmat.primitives.serialization import Encoding, pkcs7
 
@@ -688,30 +717,3 @@ def judge_pkcs7(tally, asker, keys):
         asker.count(f"{case}, handed in", RIGHT, lacking, [certificate])
         for what, altered in alterations(octets, 0):
             asker.count(f"{case}, {what}", WRONG, altered)
-
-
-def judge_tools(tally, asker, tools):
-    real_messages.set_up(tools)
-    for message in real_messages.all_messages(tools, tally):
-        judge_real_message(tally, asker, tools, message)
-    for judge in (judge_gpgsm_digests, judge_keys, judge_other_makers, judge_curves, judge_restricted_keys):
-        judge(tally, asker, tools)
-
-
-def main():
-    tally = Tally()
-    if tally.has_package("cryptography", "the verifier"):
-        with tempfile.TemporaryDirectory() as home:
-            asker, keys = Asker(home, tally), Keys()
-            for judge in (
-                judge_identifiers, judge_pss, judge_certificates, judge_nothing_calculated, judge_spoilt_keys, judge_memory, judge_warnings,
-                judge_pkcs7, judge_many, judge_serial_numbers,
-            ):
-                judge(tally, asker, keys)
-            if tally.has("openssl"):
-                judge_with_tools(tally, lambda tools: judge_tools(tally, asker, tools))
-    return tally.end(may_skip_all=True)
-
-
-if __name__ == "__main__":
-    sys.exit(main())
