@@ -9,13 +9,13 @@ import shutil
 import subprocess
 import sys
 import tarfile
-import tomllib
 from pathlib import Path
 
+import pytest
 from machines import ended
-from package_contents import inside
-from package_tools import BINARIES, CHANGELOG, DATE, PACKAGES, TOP, VERSION, crates_of_kit, told, why_failed
-from tally import differing
+from package_contents import contents, in_folder, inside
+from package_tools import BINARIES, CHANGELOG, DATE, DEBIAN, LIBRARIES, MODULES, PACKAGES, READ, TOP, VERSION, WHEELS, crates_of_kit, told, why_failed
+from tally import differing, fail_if
 
 JNA = "/usr/share/java/jna.jar"
 DER = "775ae1a53429e41657540f3eed96a76ed2cab8b85994bd7455b0c6903251161d"  # of examples/message.ber
@@ -24,9 +24,15 @@ JAVA_17 = 61  # as a class says it
 OLDEST_GLIBC = (2, 17)  # that the name of the wheel promises
 OWN = {*sys.stdlib_module_names, "cms_canon"}  # what a package imports without asking for others
 
-LIBRARIES, MODULES = "usr/lib/x86_64-linux-gnu", "usr/lib/python3/dist-packages"
-READ = tomllib.loads((TOP / "tests" / "data" / "packages.toml").read_text().replace("@VERSION@", VERSION))
-DEBIAN, WHEELS = READ["debian"], READ["wheels"]
+pytestmark = pytest.mark.tree
+
+
+@pytest.fixture(scope="module")
+def found():
+    """What is in the packages: each member by its path."""
+    if not shutil.which("dpkg-deb"):
+        pytest.skip("dpkg-deb is not installed")
+    return contents(in_folder(PACKAGES))
 
 
 def source_of(name):
@@ -40,41 +46,40 @@ def expected_modules(package):
     return {it.relative_to(folder.parent).as_posix(): it.relative_to(TOP).as_posix() for it in files}
 
 
-def check_members(tally, found):
+def test_dates(found):
     dates = (f" {int(DATE.timestamp())}", str(DATE.timetuple()[:6]))
     other = sorted(path for path, it in found.items() if it.owner and not it.owner.endswith(dates))
-    tally.count("dates of all files", differing([], other[:5]))
-    for check in (check_debian, check_texts, check_symbols, check_imports, check_wheels, check_jar):
-        check(tally, found)
+    fail_if(differing([], other[:5]))
 
 
-def check_debian(tally, found):
-    for package, expected in DEBIAN.items():
-        name = f"{package}_{VERSION}-1_{expected['architecture']}.deb"
-        own, documents = inside(found, name), [f"usr/share/doc/{package}/{it}" for it in ("copyright", "changelog.Debian.gz", "changelog.gz")]
-        links, modules = expected.get("links", {}), expected_modules(expected["modules"]) if "modules" in expected else {}
-        wanted = {**expected["files"], **links, **dict.fromkeys(documents, ""), **{f"{MODULES}/{path}": source for path, source in modules.items()}}
-        there = {path for path, it in own.items() if it.kind != "folder" and "DEBIAN/" not in path and "!" not in path}
-        tally.count(f"{name}: files", differing([], sorted({*wanted} ^ there)))
-        for path in sorted({*wanted} & there):
-            tally.count(f"{name}: {path}", why_not_from(own[path], wanted[path], path in links))
-        wrong = [path for path, it in own.items() if "!" not in path and not is_mode_right(path, it)]
-        tally.count(f"{name}: modes and owners", differing([], wrong))
-        sums = dict(reversed(line.split("  ", 1)) for line in own["DEBIAN/md5sums"].octets.decode().splitlines())
-        files = {path for path, it in own.items() if path.startswith("usr/") and it.kind == "file" and "!" not in path}
-        tally.count(f"{name}: md5sums", differing([], sorted(files ^ {*sums})))
-        scripts = {path.partition("/")[2] for path in own if re.match("DEBIAN/[a-z]", path)} - {"control", "md5sums"}
-        tally.count(f"{name}: what dpkg runs and reads", differing(expected.get("control", []), sorted(scripts)))
-        control, depends = own["DEBIAN/control"].octets.decode(), expected["depends"].replace("SAME", f"(= {VERSION}-1)")
-        lines = (f"Package: {package}", f"Version: {VERSION}-1", f"Architecture: {expected['architecture']}", "Priority: optional")
-        for line in (*lines, f"Depends: {depends}", *(f"{field}: {value}" for field, value in expected.get("beside", {}).items())):
-            tally.count(f"{name}: {line}", "" if line in control.splitlines() else f"{control!r}")
-        tally.count(f"{name}: what is filled in", "there is a place left" if re.search("@[A-Z_]+@", control) else "")
-        notices, debian_changelog, changelog = (own[it].octets.decode() for it in documents)
-        missing = [it for it in crates_of_kit() if f"\n {it}: a port of " not in notices]
-        tally.count(f"{name}: notices of the crates of the kit", differing([], sorted(missing)))
-        is_well = debian_changelog.startswith(f"cms-canon ({VERSION}-1) ") and changelog == CHANGELOG
-        tally.count(f"{name}: changelog", "" if is_well else "it is not that of the version")
+@pytest.mark.parametrize("package", DEBIAN)
+def test_debian(tally, found, package):
+    expected = DEBIAN[package]
+    name = f"{package}_{VERSION}-1_{expected['architecture']}.deb"
+    own, documents = inside(found, name), [f"usr/share/doc/{package}/{it}" for it in ("copyright", "changelog.Debian.gz", "changelog.gz")]
+    links, modules = expected.get("links", {}), expected_modules(expected["modules"]) if "modules" in expected else {}
+    wanted = {**expected["files"], **links, **dict.fromkeys(documents, ""), **{f"{MODULES}/{path}": source for path, source in modules.items()}}
+    there = {path for path, it in own.items() if it.kind != "folder" and "DEBIAN/" not in path and "!" not in path}
+    tally.count(f"{name}: files", differing([], sorted({*wanted} ^ there)))
+    for path in sorted({*wanted} & there):
+        tally.count(f"{name}: {path}", why_not_from(own[path], wanted[path], path in links))
+    wrong = [path for path, it in own.items() if "!" not in path and not is_mode_right(path, it)]
+    tally.count(f"{name}: modes and owners", differing([], wrong))
+    sums = dict(reversed(line.split("  ", 1)) for line in own["DEBIAN/md5sums"].octets.decode().splitlines())
+    files = {path for path, it in own.items() if path.startswith("usr/") and it.kind == "file" and "!" not in path}
+    tally.count(f"{name}: md5sums", differing([], sorted(files ^ {*sums})))
+    scripts = {path.partition("/")[2] for path in own if re.match("DEBIAN/[a-z]", path)} - {"control", "md5sums"}
+    tally.count(f"{name}: what dpkg runs and reads", differing(expected.get("control", []), sorted(scripts)))
+    control, depends = own["DEBIAN/control"].octets.decode(), expected["depends"].replace("SAME", f"(= {VERSION}-1)")
+    lines = (f"Package: {package}", f"Version: {VERSION}-1", f"Architecture: {expected['architecture']}", "Priority: optional")
+    for line in (*lines, f"Depends: {depends}", *(f"{field}: {value}" for field, value in expected.get("beside", {}).items())):
+        tally.count(f"{name}: {line}", "" if line in control.splitlines() else f"{control!r}")
+    tally.count(f"{name}: what is filled in", "there is a place left" if re.search("@[A-Z_]+@", control) else "")
+    notices, debian_changelog, changelog = (own[it].octets.decode() for it in documents)
+    missing = [it for it in crates_of_kit() if f"\n {it}: a port of " not in notices]
+    tally.count(f"{name}: notices of the crates of the kit", differing([], sorted(missing)))
+    is_well = debian_changelog.startswith(f"cms-canon ({VERSION}-1) ") and changelog == CHANGELOG
+    tally.count(f"{name}: changelog", "" if is_well else "it is not that of the version")
 
 
 def why_not_from(member, source, is_link):
@@ -92,7 +97,7 @@ def is_mode_right(path, member):
     return member.mode == mode and member.owner == f"0:0 root:root {int(DATE.timestamp())}"
 
 
-def check_texts(tally, found):
+def test_texts(tally, found):
     """Checks the texts that are made for Debian: the manual pages and the file for pkg-config."""
     for page in ("cms-canon", "cms-canon-archive"):
         text = found[f"{page}_{VERSION}-1_{DEBIAN[page]['architecture']}.deb!usr/share/man/man1/{page}.1.gz"].octets.decode()
@@ -102,7 +107,7 @@ def check_texts(tally, found):
     tally.count("pkg-config", differing([], sorted(lines - {*config.splitlines()})))
 
 
-def check_symbols(tally, found):
+def test_symbols(tally, found):
     if not tally.has("readelf", "symbols of the library"):
         return
     named = re.search(r"SONAME\).*\[(.*)\]", ended(["readelf", "-dW", BINARIES / "libcms_canon.so"]).output)
@@ -153,7 +158,7 @@ def named_in_control(text, *fields):
     return {*re.findall(r"python3-\w+", " ".join(re.findall(rf"^(?:{'|'.join(fields)}): (.*)$", text, re.M)))}
 
 
-def check_imports(tally, found):
+def test_imports(tally, found):
     """Checks that what the archive imports is named by its package for Debian and by its wheel, and what it begins with is asked for by both; and that
     `cms_canon` has none of it."""
     control, control_of_binding = (
@@ -184,13 +189,13 @@ def about(wheel, name):
     return f"{wheel['package']}-{VERSION}.dist-info/{name}"
 
 
-def check_wheels(tally, found):
-    tally.count("names of the wheels", differing(sorted(WHEELS), sorted(it.name for it in PACKAGES.glob("*.whl"))))
-    for name, wheel in WHEELS.items():
-        check_wheel(tally, name, wheel, {path: it.octets for path, it in inside(found, name).items()})
+def test_names_of_wheels():
+    fail_if(differing(sorted(WHEELS), sorted(it.name for it in PACKAGES.glob("*.whl"))))
 
 
-def check_wheel(tally, name, wheel, own):
+@pytest.mark.parametrize("name", WHEELS)
+def test_wheel(tally, found, name):
+    wheel, own = WHEELS[name], {path: it.octets for path, it in inside(found, name).items()}
     modules = expected_modules(wheel["modules"])
     told_of = {about(wheel, it) for it in ("METADATA", "WHEEL", "RECORD", "LICENSE-APACHE", "LICENSE-MIT", *wheel["beside"])}
     tally.count(f"{name}: files", differing([], sorted({*modules, *wheel["made"], *told_of} ^ {*own})))
@@ -223,7 +228,7 @@ def check_wheel(tally, name, wheel, own):
         tally.count("glibc that the wheel asks for", "" if newest <= OLDEST_GLIBC else f"{newest}, and its name promises {OLDEST_GLIBC}")
 
 
-def check_jar(tally, found):
+def test_jar(tally, found):
     """Checks what is in the jars, whose classes have to be those of Java 17."""
     sources = {it.relative_to(TOP / "bindings" / "java" / "src").as_posix(): it.read_bytes() for it in (TOP / "bindings" / "java" / "src").rglob("*.java")}
     shared = {f"META-INF/{it}" for it in ("MANIFEST.MF", "LICENSE-APACHE", "LICENSE-MIT", "THIRD-PARTIES")}
@@ -251,25 +256,25 @@ def check_jar(tally, found):
 
 # ---- used by themselves
 
-def check_java(tally, folder):
+def test_jar_alone(tally, tmp_path):
     """Runs the example over the jar alone, beside a library of the same name that is none of ours."""
-    if not (tally.has("java", "the jar") and Path(JNA).exists()):
-        return
-    jar = folder / "cms-canon.jar"
+    if not (shutil.which("java") and Path(JNA).exists()):
+        return tally.skip("the jar", f"java and {JNA} are not both installed")
+    jar = tmp_path / "cms-canon.jar"
     shutil.copy(PACKAGES / f"cms-canon-{VERSION}.jar", jar)
-    empty = folder / "empty"
+    empty = tmp_path / "empty"
     empty.mkdir()
-    how = {"env": {**os.environ, "LD_LIBRARY_PATH": str(folder / "front")}}
+    how = {"env": {**os.environ, "LD_LIBRARY_PATH": str(tmp_path / "front")}}
     if tally.has("gcc", "the jar before other libraries"):
-        (folder / "front").mkdir()
-        (folder / "none.c").write_text("void cms_canon_convert(void) {}\n", encoding="ascii")
-        ended(["gcc", "-shared", "-fPIC", "-o", folder / "front" / "libcms_canon.so", folder / "none.c"])
-        done = ended([*java_words(jar, folder, f"-Djna.library.path={folder / 'front'}")], **how)
+        (tmp_path / "front").mkdir()
+        (tmp_path / "none.c").write_text("void cms_canon_convert(void) {}\n", encoding="ascii")
+        ended(["gcc", "-shared", "-fPIC", "-o", tmp_path / "front" / "libcms_canon.so", tmp_path / "none.c"])
+        done = ended([*java_words(jar, tmp_path, f"-Djna.library.path={tmp_path / 'front'}")], **how)
         tally.count("a library that the property names", told(done) if done.status == 0 else "")
     for name, words in (("without a property", ()), ("with a property for another folder", (f"-Djna.library.path={empty}",))):
-        (folder / "java.der").unlink(missing_ok=True)
-        done = ended([*java_words(jar, folder, *words)], **(how if not words else {}))
-        wrote = (folder / "java.der").read_bytes() if done.status == 0 else b""
+        (tmp_path / "java.der").unlink(missing_ok=True)
+        done = ended([*java_words(jar, tmp_path, *words)], **(how if not words else {}))
+        wrote = (tmp_path / "java.der").read_bytes() if done.status == 0 else b""
         tally.count(f"the jar {name}", why_failed(done) or differing(DER, hashlib.sha256(wrote).hexdigest()))
 
 
@@ -277,31 +282,31 @@ def java_words(jar, folder, *words):
     return ["java", *words, "-cp", f"{jar}:{JNA}", TOP / "examples" / "Example.java", TOP / "examples" / "message.ber", folder / "java.der"]
 
 
-def check_crate(tally, folder):
+def test_crate_alone(tally, tmp_path):
     """Tests and documents the crate where nothing else of the repository is."""
     if not tally.has("cargo", "the crate"):
         return
-    environment = {**os.environ, "CARGO_TARGET_DIR": str(folder / "target"), "RUSTDOCFLAGS": "-D warnings"}
+    environment = {**os.environ, "CARGO_TARGET_DIR": str(tmp_path / "target"), "RUSTDOCFLAGS": "-D warnings"}
     environment.pop("CMS_CANON_LIB_DIR", None)
     with tarfile.open(PACKAGES / f"cms-canon-{VERSION}.crate") as archive:
         names = {it.name.partition("/")[2] for it in archive.getmembers()}
-        subprocess.run(["tar", "-xzf", archive.name, "-C", folder], check=True)
+        subprocess.run(["tar", "-xzf", archive.name, "-C", tmp_path], check=True)
     wanted = {"LICENSE-APACHE", "LICENSE-MIT", "THIRD-PARTIES", "README.md", "build.rs", "lib/libcms_canon.a", "examples/message.ber",
               *(it.relative_to(TOP / "bindings/rust").as_posix() for it in (TOP / "bindings/rust").glob("[se]*/*.rs"))}
     tally.count("files of the crate", differing([], sorted(wanted - names)))
     tally.count("no commit in the crate", "" if ".cargo_vcs_info.json" not in names else "it names one")
-    how = {"cwd": folder / f"cms-canon-{VERSION}", "env": environment}
+    how = {"cwd": tmp_path / f"cms-canon-{VERSION}", "env": environment}
     for words in (["test", "--quiet"], ["doc", "--quiet", "--no-deps"]):
         tally.count(f"cargo {words[0]}", why_failed(ended(["cargo", *words, "--offline"], **how)))
     run_example = ["cargo", "run", "--quiet", "--offline", "--example", "signers", "examples/message.ber"]
     done = ended(run_example, **how)
     tally.count("the example of the crate", why_failed(done) or ("" if "107 octets" in done.output else told(done)))
-    how["env"] = {**environment, "CMS_CANON_LIB_DIR": str(folder / "nowhere")}
+    how["env"] = {**environment, "CMS_CANON_LIB_DIR": str(tmp_path / "nowhere")}
     done = ended(run_example, **how)
     tally.count("CMS_CANON_LIB_DIR before the crate's own", "" if done.status != 0 and "nowhere/libcms_canon.a" in done.error else told(done))
 
 
-def check_lintian(tally):
+def test_lintian(tally):
     if not tally.has("lintian", "lintian"):
         return
     said = ended(["lintian", "--no-cfg", "--allow-root", "--fail-on", "none", *sorted(PACKAGES.glob("*.deb"))])
@@ -319,7 +324,7 @@ ODD_STEPS = ("mov    %rbp,%rsp", "leave", "ret    $0x8", "xchg   %rax,%rsp", "le
              "pop    %rsp", "add    %rax,%rsp", "mov    0x8(%rdi),%rsp", "lretq")
 
 
-def check_hardening(tally):
+def test_hardening(tally):
     if not tally.has("readelf", "hardening"):
         return
     for name in ("cms-canon", "libcms_canon.so"):

@@ -9,11 +9,14 @@ import subprocess
 import sys
 import time
 
+import pytest
 from elements import flipped
 from machines import ended, tools_without
 from package_contents import in_folder
 from package_tools import DIST, NO_TOOL, PACKAGES, TOP, VERSION, copy_of_repository, package, told, why_failed
 from tally import differing
+
+pytestmark = pytest.mark.tree
 
 MOMENT, MOMENTS = 0.1, 100  # seconds, and how many of them are waited for at most
 
@@ -30,25 +33,28 @@ def state_of(folder):
     return {it.relative_to(folder).as_posix(): (it.stat().st_mtime_ns, it.read_bytes()) for it in folder.rglob("*") if it.is_file()}
 
 
-def check_faults(tally, folder):
-    copy, to = copy_of_repository(folder / "copy"), folder / "to"
-    done = package(copy, folder / "tried")
+@pytest.fixture(scope="module")
+def copy(tmp_path_factory):
+    """A copy of the repository, from which packages can be made."""
+    copy = copy_of_repository(tmp_path_factory.mktemp("faults") / "copy")
+    done = package(copy, copy.parent / "tried")
     if done.status == NO_TOOL:
-        return tally.skip("faults while packages are made", done.error.strip())
+        pytest.skip(done.error.strip())
+    return copy
+
+
+@pytest.fixture
+def to(tmp_path):
+    """A folder with the packages, where they are made again."""
+    to = tmp_path / "to"
     to.mkdir()
     shutil.copytree(PACKAGES, to / "packages")
     shutil.copy(DIST / "SHA256SUMS", to)
-    check_damage(tally, copy, to)
-    check_tools(tally, copy, to, folder)
-    check_disk(tally, copy, to, folder)
-    check_stop(tally, copy, to)
-    done = package(copy, to)
-    same = in_folder(to / "packages") if done.status == 0 else {}
-    tally.count("made after all these", why_failed(done) or ("" if {*same} == {*in_folder(PACKAGES)} else "other files"))
-    tally.count("nothing left beside them", differing(["SHA256SUMS", "packages"], sorted(it.name for it in to.iterdir())))
+    yield to
+    assert sorted(it.name for it in to.iterdir()) == ["SHA256SUMS", "packages"], "something is left beside them"
 
 
-def check_damage(tally, copy, to):
+def test_damage(tally, copy, to):
     before, binaries = state_of(to), copy / "dist" / "x86_64-linux"
     for name in ("cms-canon", "cms_canon.h", "libcms_canon.a", "libcms_canon.so"):
         octets = (binaries / name).read_bytes()
@@ -78,10 +84,10 @@ def check_damage(tally, copy, to):
     cargo.write_text(text, encoding="utf-8")
 
 
-def check_tools(tally, copy, to, folder):
+def test_tools(tally, copy, to, tmp_path):
     before = state_of(to)
     for tool in ("dpkg-deb", "javac", "javadoc", "cargo"):
-        done = package(copy, to, env={**os.environ, "PATH": str(tools_without(folder / f"without {tool}", tool))})
+        done = package(copy, to, env={**os.environ, "PATH": str(tools_without(tmp_path / f"without {tool}", tool))})
         tally.count(f"without {tool}", why_not_refused(done, 69, f"{tool} is missing: apt-get install", to, before))
     done = package(copy, to, env={**os.environ, "CMS_CANON_JNA": "/nowhere/jna.jar"})
     tally.count("without JNA", why_not_refused(done, 69, "/nowhere/jna.jar is missing", to, before))
@@ -92,7 +98,7 @@ def check_tools(tally, copy, to, folder):
     warned.write_text(text, encoding="utf-8")
 
 
-def check_disk(tally, copy, to, folder):
+def test_disk(tally, copy, to, tmp_path):
     """Lets the disk be full, files be too large, and the folder be one that cannot be written to."""
     before = state_of(to)
     limit = {"preexec_fn": lambda: resource.setrlimit(resource.RLIMIT_FSIZE, (200_000, 200_000))}
@@ -101,7 +107,7 @@ def check_disk(tally, copy, to, folder):
     if os.geteuid() != 0 or ended(["unshare", "--mount", "true"]).status != 0:
         return tally.skip("a full disk, and a file system that is read-only", "they need root and unshare")
     words = 'mount -t tmpfs -o size=3m tmpfs "$1" && cp -rp "$2/." "$1" && "$3" "$4/scripts/package" "$4/dist/x86_64-linux" "$1"; echo $?'
-    small = folder / "small"
+    small = tmp_path / "small"
     small.mkdir()
     kept = f'{words}; cd "$1" && sha256sum --check --quiet --ignore-missing SHA256SUMS && ls -A'
     done = ended(["unshare", "--mount", "sh", "-c", kept, "sh", small, to, sys.executable, copy])
@@ -121,7 +127,7 @@ def heed_stops():
         signal.signal(stop, signal.SIG_DFL)
 
 
-def check_stop(tally, copy, to):
+def test_stop(tally, copy, to):
     """Stops the making of packages at several moments, as a shell or a machine that is shut down does."""
     before = state_of(to)
     words = [sys.executable, copy / "scripts" / "package", copy / "dist" / "x86_64-linux", to]
@@ -136,3 +142,7 @@ def check_stop(tally, copy, to):
         status = running.wait()
         why = "" if status else "it was done before it was stopped"
         tally.count(f"stopped by {stop.name}", why or ("" if state_of(to) == before else "something changed, or is left"))
+    done = package(copy, to)
+    same = in_folder(to / "packages") if done.status == 0 else {}
+    tally.count("made after all these", why_failed(done) or ("" if {*same} == {*in_folder(PACKAGES)} else "other files"))
+    tally.count("nothing left beside them", differing(["SHA256SUMS", "packages"], sorted(it.name for it in to.iterdir())))

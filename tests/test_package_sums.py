@@ -6,15 +6,18 @@ import re
 import shutil
 
 import bill
+import pytest
 from elements import flipped
 from machines import ended
 from package_tools import BINARIES, DIST, PACKAGES, TOP, VERSION, crates_of_kit, told, why_failed
 from tally import differing
 
+pytestmark = pytest.mark.tree
 
-def check_sums(tally, folder):
+
+def test_sums(tally, tmp_path):
     """Checks the sums, that they are of all files, and that they find each octet that is changed."""
-    copy = folder / "dist"
+    copy = tmp_path / "dist"
     shutil.copytree(DIST, copy)
     listed = {line.split("  ", 1)[1] for line in (copy / "SHA256SUMS").read_text(encoding="ascii").splitlines()}
     there = {it.relative_to(copy).as_posix() for it in copy.rglob("*") if it.is_file()} - {"SHA256SUMS"}
@@ -29,7 +32,7 @@ def check_sums(tally, folder):
         (copy / name).write_bytes(octets)
 
 
-def check_bill(tally):
+def test_bill(tally):
     """Checks the bill of materials: its rules, its files, and the crates of the kit."""
     name = f"cms-canon-{VERSION}.spdx.json"
     document = json.loads((PACKAGES / name).read_text(encoding="utf-8"))
@@ -61,10 +64,9 @@ def check_bill(tally):
     tally.count("crates that are linked", differing(sorted(known), sorted(linked)))
     if tally.has("pyspdxtools", "the bill of materials by pyspdxtools"):
         tally.count("pyspdxtools", why_failed(ended(["pyspdxtools", "-i", PACKAGES / name])))
-    check_components(tally)
 
 
-def check_components(tally):
+def test_components(tally):
     """Compares what is kept of the kit's crates with the kit, if it is the one that they were read from."""
     kept = json.loads((TOP / "packaging" / "components.json").read_text(encoding="utf-8"))["kit"]
     here = ended(["rt", "version"]).output.strip() if shutil.which("rt") else ""

@@ -1,7 +1,4 @@
-#!/usr/bin/env python3
 """Tests the packages in dist/, and installs them as docs/INSTALL.md says.
-
-    python3 tests/packages.py
 
 - All packages are made again from a copy of the repository in another folder, with another umask, zone, language and dates of files. If the
   tools are those that made dist/, each is compared octet for octet. Else what is in them is compared, and it is said by name what is not.
@@ -22,30 +19,32 @@ import os
 import shutil
 import subprocess
 import sys
-import tempfile
 import zipfile
-from pathlib import Path
 
-import package_checks as checks
+import pytest
 from machines import Debian, Here, ended, sections
-from package_contents import OF_TOOL, contents, difference, in_folder, tools_of
-from package_faults import check_faults
-from package_sums import check_bill, check_sums
-from package_tools import DIST, FIX, NO_TOOL, PACKAGES, TOP, VERSION, copy_of_repository, package, told, why_failed
-from tally import Tally, differing
+from package_contents import OF_TOOL, difference, in_folder, tools_of
+from package_tools import DEBIAN, DIST, FIX, LIBRARIES, MODULES, NO_TOOL, PACKAGES, TOP, VERSION, WHEELS, copy_of_repository, package, told, why_failed
+from tally import differing
+
+pytestmark = pytest.mark.tree
 
 
-def check_made_again(tally, folder):
-    """Makes all packages in another folder, and compares them. Returns them, or None."""
+@pytest.fixture(scope="module")
+def made_again(tmp_path_factory):
+    """The folder of packages that are made again in another folder."""
+    folder = tmp_path_factory.mktemp("packages")
     copy = copy_of_repository(folder / "elsewhere" / "a copy")
     environment = {**os.environ, "TZ": "Pacific/Chatham", "LANG": "tr_TR.UTF-8", "LC_ALL": "C", "SOURCE_DATE_EPOCH": "1"}
     done = package(copy, folder / "made again", umask=0o077, env=environment)
     if done.status == NO_TOOL:
-        return tally.skip("packages made again", done.error.strip())
-    tally.count("made again", why_failed(done))
-    if done.status != 0:
-        return None
-    kept, made = in_folder(PACKAGES), in_folder(folder / "made again" / "packages")
+        pytest.skip(done.error.strip())
+    assert done.status == 0, told(done)
+    return folder / "made again"
+
+
+def test_made_again(tally, made_again):
+    kept, made = in_folder(PACKAGES), in_folder(made_again / "packages")
     tally.count("names of the packages", "" if {*kept} == {*made} else f"{sorted({*kept} ^ {*made})}: {FIX}")
     others = sorted(name for name, version in tools_of(kept).items() if tools_of(made).get(name) != version)
     for name in others:
@@ -56,9 +55,8 @@ def check_made_again(tally, folder):
     why = difference(kept, made, others)
     tally.count("what is in the packages", f"{why}: {FIX}" if why else "")
     if not others:
-        sums = (folder / "made again" / "SHA256SUMS").read_bytes()
+        sums = (made_again / "SHA256SUMS").read_bytes()
         tally.count("octets/SHA256SUMS", "" if sums == (DIST / "SHA256SUMS").read_bytes() else f"it is not that of these: {FIX}")
-    return made
 
 
 def rebuilt(octets, change, folder):
@@ -77,20 +75,21 @@ def tools_that_differ():
     return sorted(name for name, version in tools_of(in_folder(PACKAGES)).items() if str((name, version)) not in said)
 
 
-def check_wrong_packages(tally, made, folder):
+def test_wrong_packages(tally, made_again, tmp_path):
     """Makes packages wrong, which the comparison of what is in them has to find."""
+    made = in_folder(made_again / "packages")
     command, library = f"cms-canon_{VERSION}-1_amd64.deb", f"libcms-canon0_{VERSION}-1_amd64.deb"
     for name, change in (
         (command, "chmod 700 usr/bin/cms-canon"),
         (command, "touch usr/bin/other"),
         (command, "rm usr/share/zsh/vendor-completions/_cms-canon"),
-        (library, f"printf x >>{checks.LIBRARIES}/libcms_canon.so.0"),
+        (library, f"printf x >>{LIBRARIES}/libcms_canon.so.0"),
         (library, "rm DEBIAN/triggers"),
-        (f"libcms-canon-dev_{VERSION}-1_amd64.deb", f"ln -sf elsewhere {checks.LIBRARIES}/libcms_canon.so"),
+        (f"libcms-canon-dev_{VERSION}-1_amd64.deb", f"ln -sf elsewhere {LIBRARIES}/libcms_canon.so"),
     ):
-        wrong = {**made, name: rebuilt(made[name], change, folder)}
+        wrong = {**made, name: rebuilt(made[name], change, tmp_path)}
         tally.count(f"{name}, wrong by {change!r}", "" if difference(made, wrong) else "it is taken for the same")
-    wheel, archive, jar = (*checks.WHEELS, f"cms-canon-{VERSION}.jar")
+    wheel, archive, jar = (*WHEELS, f"cms-canon-{VERSION}.jar")
     for name, member_name in ((wheel, "py.typed"), (archive, "entry_points.txt"), (jar, "libcms_canon.so"), (jar, "CmsCanon.class")):
         without = io.BytesIO()
         with zipfile.ZipFile(io.BytesIO(made[name])) as old, zipfile.ZipFile(without, "w") as new:
@@ -114,8 +113,8 @@ def machine_in(tally, folder):
         return Here(folder / "here")
 
 
-def check_install(tally, folder):
-    machine = machine_in(tally, folder)
+def test_install(tally, tmp_path):
+    machine = machine_in(tally, tmp_path)
     for title, commands in sections(TOP / "docs" / "INSTALL.md").items():
         if why := machine.why_not(commands):
             tally.skip(f"INSTALL.md, {title}, on {machine.name}", why)
@@ -133,20 +132,20 @@ def check_install(tally, folder):
         # All packages for Debian are installed at once, verified by dpkg, and purged.
         done = machine.run("sudo apt-get install ./dist/packages/*.deb")
         tally.count("all packages at once", why_failed(done))
-        verified = machine.run(f"dpkg --verify {' '.join(checks.DEBIAN)}\n/sbin/ldconfig -p | grep -c libcms_canon.so.0")
+        verified = machine.run(f"dpkg --verify {' '.join(DEBIAN)}\n/sbin/ldconfig -p | grep -c libcms_canon.so.0")
         tally.count("dpkg --verify", why_failed(verified) or differing("1\n", verified.output))
-        modules = f"/{checks.MODULES}/cms_canon"
+        modules = f"/{MODULES}/cms_canon"
         compiled = machine.run(f"ls {modules}/__pycache__/__init__.*.pyc {modules}_archive/__pycache__/command.*.pyc")
         tally.count("modules compiled", why_failed(compiled))
-        done = machine.run(f"sudo apt-get purge {' '.join(checks.DEBIAN)}")
+        done = machine.run(f"sudo apt-get purge {' '.join(DEBIAN)}")
         tally.count("all packages purged", why_failed(done) or differing([], machine.left_over()))
 
 
-def check_releasing(tally, folder):
+def test_releasing(tally, tmp_path):
     """Runs the commands of docs/RELEASING.md in a copy: the sums are signed and checked, and all packages made again and compared."""
-    home = folder / "keys"
+    home = tmp_path / "keys"
     home.mkdir(mode=0o700)
-    machine = Here(folder, GNUPGHOME=str(home))
+    machine = Here(tmp_path, GNUPGHOME=str(home))
     key = 'gpg --batch --quiet --passphrase "" --quick-generate-key "A distributor <nobody@example.org>" ed25519 sign'
     for title, commands in sections(TOP / "docs" / "RELEASING.md").items():
         tool = "cargo" if "against the sources" in title else "gpg"
@@ -162,37 +161,5 @@ def check_releasing(tally, folder):
     machine.run("gpgconf --kill all")
 
 
-def main():
-    tally = Tally()
-    if not (PACKAGES / "TOOLS").exists():
-        tally.count("packages", f"there are none in dist/: {FIX}")
-        return tally.end()
-    with tempfile.TemporaryDirectory(prefix="packages-") as name:
-        folder = Path(name).resolve()
-        for part, check in PARTS_OF_TEST.items():
-            (folder / part).mkdir()
-            check(tally, folder / part)
-    return tally.end()
-
-
-def check_all_packages(tally, folder):
-    if not tally.has("dpkg-deb", "what is in the packages"):
-        return
-    made = check_made_again(tally, folder)
-    if made is not None:
-        check_wrong_packages(tally, made, folder)
-    found = contents(in_folder(PACKAGES))
-    checks.check_members(tally, found)
-    checks.check_lintian(tally)
-    checks.check_hardening(tally)
-    check_bill(tally)
-
-
-PARTS_OF_TEST = {
-    "contents": check_all_packages, "sums": check_sums, "java": checks.check_java, "crate": checks.check_crate, "faults": check_faults,
-    "releasing": check_releasing, "install": check_install,
-}
-
-
-if __name__ == "__main__":
-    sys.exit(main())
+def test_packages_are_there():
+    assert (PACKAGES / "TOOLS").exists(), f"there are none in dist/: {FIX}"

@@ -1,7 +1,4 @@
-#!/usr/bin/env python3
 """Runs the commands that the documents print, as they are printed and in their order.
-
-    python3 tests/printed.py
 
 - Each document that tests/data/printed.toml has under `said`, in a copy of the files that git knows: each command of its blocks `sh` and `console`
   in one shell. Each has to succeed, and one of `console` writes what is printed below it. A block in another language is part of a
@@ -10,8 +7,8 @@
   files that they are about.
 - bindings/python/README.md: the package is installed as it says, and its first sample is run.
 
-tests/packages.py runs those of docs/INSTALL.md. A command that is not run is in tests/data/printed.toml, with the reason, and so are commands in the
-text around the blocks. What needs a tool that is missing is skipped by its name. All is done in a folder that is removed afterwards.
+tests/test_packages.py runs those of docs/INSTALL.md. A command that is not run is in tests/data/printed.toml, with the reason, and so are commands in
+the text around the blocks. What needs a tool that is missing is skipped by its name.
 """
 
 import base64
@@ -21,8 +18,6 @@ import re
 import shutil
 import signal
 import subprocess
-import sys
-import tempfile
 import textwrap
 import threading
 import tomllib
@@ -30,16 +25,22 @@ from collections import namedtuple
 from email.mime.application import MIMEApplication
 from pathlib import Path
 
+import pytest
 from machines import clone_into
-from real_messages import Tools, ToolFault, set_up
-from run_vectors import DATA_FILES, RELEASE, TOP
-from tally import Tally
+from programs import DATA_FILES, RELEASE, TOP
+
+pytestmark = [
+    pytest.mark.tree,
+    pytest.mark.skipif(not all(map(shutil.which, ("bash", "git", "openssl"))), reason="bash, git and openssl are not all installed"),
+]
 
 SECONDS = 120  # no command may take longer
 JNA = "/usr/share/java/jna.jar"
 DEBIAN_PYTHON = "/usr/bin/python3"
 ARCHIVE_PAGE = TOP / "archive" / "docs" / "man" / "cms-canon-archive.1"
 OF_ARCHIVE = ("click", "tqdm", "sqlalchemy", "jinja2", "matplotlib")
+PAGE, README_OF_PYTHON = TOP / "docs" / "man" / "cms-canon.1", "bindings/python/README.md"
+RECIPES = ("docs/REFUSALS.md", "docs/FORMATS.md")
 COMMANDS = ("convert", "show", "check", "cover", "same")
 OF_RUST = {"RUSTUP_HOME": ".rustup", "CARGO_HOME": ".cargo"}  # where cargo has its tools, in the home of the user
 
@@ -84,6 +85,10 @@ def commands_of(block):
 
 def fenced(text):
     return [Block(*it) for it in re.findall(r"^```(\w*)\n(.*?)^```$", text, re.M | re.S)]
+
+
+def of_shell(blocks):
+    return [it for it in blocks if it.language in ("sh", "console")]
 
 
 def of_manual(page, section):
@@ -146,20 +151,18 @@ def why_skipped(block):
 
 
 def run_blocks(tally, name, shell, blocks, prepare=str, judge=lambda words: ""):
-    """Runs the commands of the blocks: each after `prepare`, and before `judge`, which returns a complaint. Returns those not run."""
-    not_run = []
+    """Runs the commands of the blocks: each after `prepare`, and before `judge`, which returns a complaint."""
     for block in blocks:
         missing = why_skipped(block)
         for printed in commands_of(block):
             title = f"{name}: {printed.words}"
             if printed.words.strip() in NOT_RUN:
-                not_run.append(printed.words.strip())
-            elif missing:
+                continue
+            if missing:
                 tally.skip(title, missing)
             else:
                 prepare(printed.words)
                 tally.count(title, why_not_as_printed(shell, printed) or judge(printed.words))
-    return not_run
 
 
 # ---- the files that the documents are about
@@ -175,17 +178,12 @@ def mail_of(octets):
     return MIMEApplication(octets, "pkcs7-mime", smime_type="signed-data").as_bytes(policy=email.policy.SMTP)
 
 
-class Authority:
-    def __init__(self, folder):
-        folder.mkdir()
-        self.tools = Tools(folder)
-        set_up(self.tools)
-
-    def answer(self, request, to):
-        shutil.copy(request, self.tools.folder / "request.tsq")
-        self.tools.make("openssl ts -reply -queryfile request.tsq -section stamps_sha256 -out response.tsr")
-        shutil.copy(self.tools.folder / "response.tsr", to)
-        shutil.copy(self.tools.folder / "ca.pem", to)
+def answer(tools, request, to):
+    """Has the authority answer a request for a time-stamp, in this folder."""
+    shutil.copy(request, tools.folder / "request.tsq")
+    tools.make("openssl ts -reply -queryfile request.tsq -section stamps_sha256 -out response.tsr")
+    shutil.copy(tools.folder / "response.tsr", to)
+    shutil.copy(tools.folder / "ca.pem", to)
 
 
 # ---- documents in a clone
@@ -222,32 +220,9 @@ class Clone:
     def prepare(self, words):
         """Writes what a command is to find that another one than those of the document makes."""
         if "example/response.tsr" in words and not (self.top / "example" / "response.tsr").exists():
-            self.authority.answer(self.top / "example" / "request.tsq", self.top / "example")
+            answer(self.authority, self.top / "example" / "request.tsq", self.top / "example")
         if "message.pem" in words:
             (self.top / "message.pem").write_bytes(pem_of((self.top / "examples" / "message.ber").read_bytes()))
-
-
-def check_in_clone(tally, name, folder, authority, judge=None):
-    """Runs the commands of a document in a copy of the repository, which `judge` looks at afterwards."""
-    clone = Clone(folder, authority)
-    text = (clone.top / name).read_text(encoding="utf-8")
-    # No command is passed over: none is in an indented block, and each in the text is known.
-    around = re.sub(r"^```.*?^```$", "", text, flags=re.M | re.S)
-    tally.count(f"{name}: blocks without fences", ", ".join(re.findall(r"(?<=\n\n) {4}.*", around)))
-    said = {" ".join(it.split()) for it in COMMAND_IN_TEXT.findall(around)}
-    tally.count(f"{name}: commands in the text", ", ".join(sorted(said - SAID[name])))
-    tally.count(f"{name}: commands that are no longer in the text", ", ".join(sorted(SAID[name] - said)))
-    blocks = fenced(text)
-    in_shell = [it for it in blocks if it.language in ("sh", "console")]
-    for block in blocks:
-        if block not in in_shell:
-            tally.count(f"{name}: {block.body[:60]!r}", why_no_part(clone.top, block))
-    shell = Shell(clone.top, clone.home)
-    with shell.process:
-        not_run = run_blocks(tally, name, shell, in_shell, clone.prepare)
-    if judge:
-        judge(tally, clone.top)
-    return not_run
 
 
 def judge_archive(tally, copy):
@@ -294,6 +269,29 @@ def judge_examples(tally, copy):
 JUDGES = {"archive/README.md": judge_archive, "examples/README.md": judge_examples}
 
 
+@pytest.mark.parametrize("name", SAID)
+def test_in_clone(tally, tmp_path, authority, name):
+    """Runs the commands of a document in a copy of the repository, and looks at what they have made there."""
+    clone = Clone(tmp_path, authority)
+    text = (clone.top / name).read_text(encoding="utf-8")
+    # No command is passed over: none is in an indented block, and each in the text is known.
+    around = re.sub(r"^```.*?^```$", "", text, flags=re.M | re.S)
+    tally.count(f"{name}: blocks without fences", ", ".join(re.findall(r"(?<=\n\n) {4}.*", around)))
+    said = {" ".join(it.split()) for it in COMMAND_IN_TEXT.findall(around)}
+    tally.count(f"{name}: commands in the text", ", ".join(sorted(said - SAID[name])))
+    tally.count(f"{name}: commands that are no longer in the text", ", ".join(sorted(SAID[name] - said)))
+    blocks = fenced(text)
+    in_shell = of_shell(blocks)
+    for block in blocks:
+        if block not in in_shell:
+            tally.count(f"{name}: {block.body[:60]!r}", why_no_part(clone.top, block))
+    shell = Shell(clone.top, clone.home)
+    with shell.process:
+        run_blocks(tally, name, shell, in_shell, clone.prepare)
+    if name in JUDGES:
+        JUDGES[name](tally, clone.top)
+
+
 # ---- the other documents
 
 class Recipes:
@@ -304,21 +302,21 @@ class Recipes:
         (folder / "folder").mkdir()
         self.program = Path(shutil.copy(RELEASE / "cms-canon", programs))
         sign = "openssl cms -sign -in content.txt -signer rsa.pem -inkey rsa.key -binary"
-        authority.tools.make(f"{sign} -nodetach -stream -outform DER -out message.ber")
-        authority.tools.make(f"{sign} -out multipart.eml")
-        self.message, self.multipart = (authority.tools.read(it) for it in ("message.ber", "multipart.eml"))
+        authority.make(f"{sign} -nodetach -stream -outform DER -out message.ber")
+        authority.make(f"{sign} -out multipart.eml")
+        self.message, self.multipart = (authority.read(it) for it in ("message.ber", "multipart.eml"))
         self.der = self.says("convert", self.message)
         self.write(self.message, "message.ber", "folder/1.p7s", "folder/2.p7s")
         self.write(self.der, "message.der", "first.der", "second.der")
         self.write(self.der + self.der, "all.der")
         self.write(pem_of(self.message), "message.pem")
-        self.write(authority.tools.read("content.txt"), "content")
-        self.write(authority.tools.read("rsa.crt"), "cert.pem")
+        self.write(authority.read("content.txt"), "content")
+        self.write(authority.read("rsa.crt"), "cert.pem")
         self.write(b"A contract.\n", "contract.txt", "document")
         self.write(self.der[-256:], "signature")
-        self.write(authority.tools.make("openssl x509 -in rsa.crt -pubkey -noout"), "public.pem")
-        authority.tools.make(f"openssl ts -query -data {folder}/contract.txt -sha256 -cert -out contract.tsq")
-        authority.answer(authority.tools.folder / "contract.tsq", folder)
+        self.write(authority.make("openssl x509 -in rsa.crt -pubkey -noout"), "public.pem")
+        authority.make(f"openssl ts -query -data {folder}/contract.txt -sha256 -cert -out contract.tsq")
+        answer(authority, authority.folder / "contract.tsq", folder)
 
     def write(self, octets, *names):
         for name in names:
@@ -348,97 +346,99 @@ class Recipes:
 
 
 def check_recipes(tally, name, blocks, folder, authority):
-    folder.mkdir()
     recipes = Recipes(folder, authority)
     shell = Shell(folder, recipes.home)
     with shell.process:
-        return run_blocks(tally, name, shell, blocks, recipes.prepare, recipes.why_not_right)
+        run_blocks(tally, name, shell, blocks, recipes.prepare, recipes.why_not_right)
 
 
-def check_help(tally, folder, authority):
-    blocks = []
+def blocks_of_help():
     for words in (["--help"], *(["help", it] for it in COMMANDS)):
         text = subprocess.run([RELEASE / "cms-canon", *words], capture_output=True, text=True).stdout
         (examples,) = re.findall(r"^Examples?:\n(.*?)^$", text, re.M | re.S)
-        # What is said of a command stands two columns further to the right.
-        blocks += [Block("sh", it) for it in re.findall(r"^ {2}\S.*\n(?: {4}.*\n)*", examples, re.M)]
+        # What is said of a command is two columns further to the right.
+        yield from (Block("sh", it) for it in re.findall(r"^ {2}\S.*\n(?: {4}.*\n)*", examples, re.M))
+
+
+def test_help(tally, tmp_path, authority):
+    blocks = [*blocks_of_help()]
     tally.count("help: commands with examples", "" if len(blocks) > len(COMMANDS) else f"{len(blocks)} examples")
-    return check_recipes(tally, "help", blocks, folder, authority)
+    check_recipes(tally, "help", blocks, tmp_path, authority)
 
 
-def check_formats(tally, folder, authority):
-    not_run = check_blocks_of(tally, "docs/FORMATS.md", folder, authority)
-    parts = [it.read_bytes() for it in sorted(folder.glob("[0-9].der"))]
-    der = (folder / "first.der").read_bytes()
-    tally.count("docs/FORMATS.md: messages that are split", "" if parts == [der, der] else f"{len(parts)} files")
-    return not_run
-
-
-def check_blocks_of(tally, name, folder, authority):
-    """Runs the recipes of a document; those in Python by a shell."""
+def blocks_of(name):
+    """Returns the recipes of a document; those in Python are run by a shell."""
     blocks = fenced((TOP / name).read_text(encoding="utf-8"))
+    return [Block("sh", f"python3 - <<'END'\n{it.body}END\n") if it.language == "python" else it for it in blocks]
+
+
+@pytest.mark.parametrize("name", RECIPES)
+def test_recipes(tally, tmp_path, authority, name):
+    blocks = blocks_of(name)
     for block in blocks:
-        tally.count(f"{name}: languages", "" if block.language in ("sh", "console", "python") else f"{block.language} is not known")
-    in_shell = [Block("sh", f"python3 - <<'END'\n{it.body}END\n") if it.language == "python" else it for it in blocks]
-    return check_recipes(tally, name, in_shell, folder, authority)
+        tally.count(f"{name}: languages", "" if block in of_shell(blocks) else f"{block.language} is not known")
+    check_recipes(tally, name, blocks, tmp_path, authority)
+    if name == "docs/FORMATS.md":
+        parts = [it.read_bytes() for it in sorted(tmp_path.glob("[0-9].der"))]
+        der = (tmp_path / "first.der").read_bytes()
+        tally.count("docs/FORMATS.md: messages that are split", "" if parts == [der, der] else f"{len(parts)} files")
 
 
-def check_python(tally, folder, authority):
-    """Installs the package as bindings/python/README.md says, and runs the sample of the calls; tests/libraries.py runs that of the verifier and
+def test_python(tally, tmp_path):
+    """Installs the package as bindings/python/README.md says, and runs the sample of the calls; tests/test_libraries.py runs that of the verifier and
     that of the fields."""
-    (folder / "home").mkdir(parents=True)
+    folder, home = tmp_path / "clone", tmp_path / "home"
+    home.mkdir()
+    folder.mkdir()
     clone_into(folder)
-    blocks = fenced((folder / "bindings" / "python" / "README.md").read_text(encoding="utf-8"))
+    blocks = fenced((folder / README_OF_PYTHON).read_text(encoding="utf-8"))
     calls, *others = [it for it in blocks if it.language == "python"]
-    tally.count("bindings/python/README.md: samples", "" if len(others) == 2 else f"{1 + len(others)} samples, of which three are run")
+    tally.count(f"{README_OF_PYTHON}: samples", "" if len(others) == 2 else f"{1 + len(others)} samples, of which three are run")
     message = (folder / "examples" / "message.ber").read_bytes()
     (folder / "message.ber").write_bytes(message)
     (folder / "messages.ber").write_bytes(message + message)
-    shell = Shell(folder, folder / "home")
+    shell = Shell(folder, home)
     with shell.process:
-        not_run = run_blocks(tally, "bindings/python/README.md", shell, [it for it in blocks if it.language == "sh"])
+        run_blocks(tally, README_OF_PYTHON, shell, [it for it in blocks if it.language == "sh"])
         status, written, errors = shell.run(f"venv/bin/python - <<'END'\n{calls.body}END")
     lines = written.splitlines()
     is_so = (status, lines[:1], lines[-3:]) == (0, ["kind: signed-data"], ["F18 signer 0 verifier says unknown", "762", "762"])
-    tally.count("bindings/python/README.md: the sample of the calls", "" if is_so else f"status {status}: {written}{errors}")
-    return not_run
+    tally.count(f"{README_OF_PYTHON}: the sample of the calls", "" if is_so else f"status {status}: {written}{errors}")
 
 
-def check_manuals(tally, folder, authority):
-    if not tally.has("man", "the manual pages"):
-        return READ["not_run"]["network"]
-    page = TOP / "docs" / "man" / "cms-canon.1"
-    of_many = [it for it in of_manual(page, "MANY MESSAGES") if shutil.which(it.body.split()[0])]  # the others show lines of the program
+def blocks_on_many():
+    """Returns the commands on many messages of the manual; the others there show lines of the program."""
+    return [it for it in of_manual(PAGE, "MANY MESSAGES") if shutil.which(it.body.split()[0])]
+
+
+needs_man = pytest.mark.skipif(not shutil.which("man"), reason="man is not installed")
+
+
+@needs_man
+def test_manual(tally, tmp_path, authority):
+    of_many = blocks_on_many()
     tally.count("man cms-canon: commands on many messages", "" if len(of_many) == 2 else f"{len(of_many)}")
-    not_run = check_recipes(tally, "man cms-canon", [*of_manual(page, "EXAMPLES"), *of_many], folder, authority)
+    check_recipes(tally, "man cms-canon", [*of_manual(PAGE, "EXAMPLES"), *of_many], tmp_path, authority)
+
+
+@needs_man
+def test_manual_of_the_archive(tally, tmp_path):
     for name in ("archive", "dist", "bindings", "docs", "packaging"):
-        shutil.copytree(TOP / name, folder / name)
+        shutil.copytree(TOP / name, tmp_path / name)
     for name in ("CHANGELOG.md", "LICENSE-APACHE", "LICENSE-MIT"):
-        shutil.copy(TOP / name, folder)
-    shell = Shell(folder, folder / "home")
+        shutil.copy(TOP / name, tmp_path)
+    (tmp_path / "home").mkdir()
+    shell = Shell(tmp_path, tmp_path / "home")
     with shell.process:
-        return not_run + run_blocks(tally, "man cms-canon-archive", shell, of_manual(ARCHIVE_PAGE, "DESCRIPTION"))
+        run_blocks(tally, "man cms-canon-archive", shell, of_manual(ARCHIVE_PAGE, "DESCRIPTION"))
 
 
-def main():
-    tally = Tally()
-    if not all([tally.has(it, "all") for it in ("bash", "git", "openssl")]):
-        return tally.end(may_skip_all=True)
-    with tempfile.TemporaryDirectory(prefix="printed-") as name:
-        folder = Path(name).resolve()
-        try:
-            authority = Authority(folder / "authority")
-            not_run = []
-            for number, document in enumerate(SAID):
-                not_run += check_in_clone(tally, document, folder / f"clone-{number}", authority, JUDGES.get(document))
-            not_run += check_blocks_of(tally, "docs/REFUSALS.md", folder / "refusals", authority)
-            for check in (check_formats, check_help, check_manuals, check_python):
-                not_run += check(tally, folder / check.__name__, authority)
-            tally.count("what is not run is printed", ", ".join(NOT_RUN - set(not_run)))
-        except (Failed, ToolFault, OSError, subprocess.SubprocessError) as fault:
-            tally.count("all", str(fault))
-    return tally.end()
-
-
-if __name__ == "__main__":
-    sys.exit(main())
+@needs_man
+def test_not_run(tally):
+    """What is not run is printed somewhere."""
+    in_documents = [it for name in SAID for it in of_shell(fenced((TOP / name).read_text(encoding="utf-8")))]
+    in_readme = [it for it in fenced((TOP / README_OF_PYTHON).read_text(encoding="utf-8")) if it.language == "sh"]
+    in_recipes = [it for name in RECIPES for it in blocks_of(name)]
+    in_manuals = [*of_manual(PAGE, "EXAMPLES"), *blocks_on_many(), *of_manual(ARCHIVE_PAGE, "DESCRIPTION")]
+    printed = {it.words.strip() for block in (*in_documents, *in_readme, *in_recipes, *blocks_of_help(), *in_manuals) for it in commands_of(block)}
+    tally.count("what is not run is printed", ", ".join(NOT_RUN - printed))

@@ -4,6 +4,7 @@ import os
 import re
 import shutil
 import sys
+import tomllib
 from datetime import datetime
 from pathlib import Path
 
@@ -21,6 +22,9 @@ VERSION = re.search(r"^version: (.*)$", (BINARIES / "MANIFEST").read_text(encodi
 CHANGELOG = (TOP / "CHANGELOG.md").read_text(encoding="utf-8")
 DATED = re.search(rf"^## {re.escape(VERSION)} - (.*)$", CHANGELOG, re.M)
 DATE = datetime.fromisoformat(f"{DATED[1] if DATED else '1970-01-01'}T00:00:00+00:00")
+READ = tomllib.loads((TOP / "tests" / "data" / "packages.toml").read_text().replace("@VERSION@", VERSION))
+DEBIAN, WHEELS = READ["debian"], READ["wheels"]
+LIBRARIES, MODULES = "usr/lib/x86_64-linux-gnu", "usr/lib/python3/dist-packages"
 LONG_AGO = 1_000_000_000  # seconds, in 2001
 NO_TOOL = 69  # the status of scripts/package if a tool is missing
 
