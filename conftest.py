@@ -31,6 +31,8 @@ def pytest_pyfunc_call(pyfuncitem):
     if tally is None:
         return
     pyfuncitem.user_properties.append((COUNTED, (tally.passed, len(tally.failures), tally.skips)))
+    if outcome.excinfo:
+        print(*tally.failures, sep="\n")
     outcome.get_result()
     if tally.failures:
         pytest.fail("\n".join(tally.failures), pytrace=False)
@@ -53,7 +55,7 @@ class Counts:
         passed, failed, skipped = counted or (report.passed and report.when == "call", 0, [])
         self.passed += passed
         self.failed += max(failed, report.failed)
-        self.skipped += skipped or ([report.longrepr[2]] if report.skipped else [])
+        self.skipped += skipped or ([f"{report.nodeid}: {report.longrepr[2].removeprefix('Skipped: ')}"] if report.skipped else [])
 
     def pytest_unconfigure(self):
         for line in self.skipped:
@@ -86,7 +88,7 @@ def built(request):
 
 def built_program(path):
     if not os.access(path, os.X_OK):
-        pytest.fail(f"there is no program {path}: `rt ci` builds it, and --built names the folder in which it has done so", pytrace=False)
+        pytest.fail(f"there is no program {path}: `rt ci` builds it, and --built=FOLDER names where it has done so", pytrace=False)
     return path
 
 

@@ -1,6 +1,6 @@
 """Compares what is released, in dist/, with what was just proved and built, and tries ./cms-canon as a fresh clone has it.
 
---built names a copy of this repository in which the crates were proved and built. What a release of it would be is written to
+--built=FOLDER names a copy of this repository in which the crates were proved and built. What a release of it would be is written to
 out/candidate, from where scripts/release takes it.
 
 - dist/ is made from these sources, and each of its files has the SHA-256 that its MANIFEST names.
@@ -89,7 +89,7 @@ def test_released(built, tally):
     tools = [it for it in ("kit", "strip", "objcopy") if made[it] != values.get(it)]
     if tools:
         print("octets are not compared: dist/ is made with " + "; ".join(f"{values.get(it)}, and this is {made[it]}" for it in tools))
-        words = ["-m", "pytest", "-q", TOP / "tests" / "test_vectors.py", "--program", RELEASE / "cms-canon", "--built", built]
+        words = ["-m", "pytest", "-q", "tests/test_vectors.py", f"--program={RELEASE / 'cms-canon'}", f"--built={built}"]
         last = run(sys.executable, *words, cwd=TOP).stdout.decode().splitlines()[-1:]
         counted = re.fullmatch(r"(\d+) passed, 0 failed.*", last[0] if last else "")
         count("vectors on the released program", "" if counted else f"ended in {last}")
