@@ -16,7 +16,9 @@ from pathlib import Path
 
 import pytest
 from elements import element, message as message_of
+from needs import needs
 from programs import RELEASE, TOP
+from tally import fail_if
 
 pytestmark = pytest.mark.tree
 
@@ -97,12 +99,14 @@ def worst_messages(octets):
         yield name, message_of(before, member, after)
 
 
-def test_units(tally, tmp_path):
-    if tally.has("systemd-analyze", "the units for systemd"):
-        ended = verified(tmp_path)
-        tally.count("systemd: units", "" if (ended.returncode, ended.stderr) == (0, "") else f"status {ended.returncode}: {ended.stderr[:500]}")
-    if not tally.has("prlimit", "the limits of the units"):
-        return
+@needs("systemd-analyze")
+def test_units(tmp_path):
+    ended = verified(tmp_path)
+    fail_if("" if (ended.returncode, ended.stderr) == (0, "") else f"status {ended.returncode}: {ended.stderr[:500]}")
+
+
+@needs("prlimit")
+def test_limits(tally):
     found = re.findall(r"^Limit(AS|CPU|STACK|NOFILE|CORE)=(\d+)([KM]?)$", (UNITS / "cms-canon@.service").read_text(), re.M)
     limits = ["prlimit", *(f"--{name.lower()}={int(number) * UNITS_OF_SIZE[size]}" for name, number, size in found)]
     tally.count("systemd: limits", "" if len(limits) == 6 else f"{limits}")
@@ -115,9 +119,8 @@ def test_units(tally, tmp_path):
         tally.count(f"systemd: {name}", "" if is_so else said)
 
 
+@needs("python3", "javadoc", "cargo")
 def test_api(tally, tmp_path):
-    if not all([tally.has(it, "scripts/api") for it in ("python3", "javadoc", "cargo")]):
-        return
     ended = subprocess.run([TOP / "scripts" / "api", tmp_path], capture_output=True, text=True)
     tally.count("scripts/api", "" if (ended.returncode, ended.stderr) == (0, "") else f"status {ended.returncode}: {ended.stderr[:500]}")
     for page, form in (

@@ -15,16 +15,16 @@ import os
 import re
 import shutil
 import subprocess
-from pathlib import Path
 
 import pytest
 from elements import contents_of, element, message as message_of
 from field_lines import cases, word as word_of
 from library_requests import asked_of, request, requests, requests_of_deep_messages
+from needs import needs
 from programs import RELEASE, TOP, built_refusing, shortened
 from tally import fail_if
 
-JNA = Path("/usr/share/java/jna.jar")
+JNA = "/usr/share/java/jna.jar"
 C_SOURCES, PYTHON_TESTS = TOP / "tests" / "c", TOP / "bindings" / "python" / "tests"
 ARCHIVE = RELEASE / "libcms_canon.a"
 WARNINGS = ["-std=c11", "-Wall", "-Wextra", "-Werror", "-g", "-I", str(RELEASE)]
@@ -32,12 +32,6 @@ WATCHED = ["valgrind", "--quiet", "--error-exitcode=9", "--leak-check=full"]
 SHORT = 20_000  # octets: the longest requests that are also tried under valgrind
 PYTHON = shutil.which("python3")
 SECONDS = 600
-
-
-def needs(*tools):
-    """Marks a test that is skipped if one of these programs or files is missing."""
-    missing = [it for it in tools if not (shutil.which(it) or Path(it).is_file())]
-    return pytest.mark.skipif(bool(missing), reason=f"{', '.join(missing)} not installed")
 
 
 class Failed(Exception):
@@ -97,8 +91,7 @@ def test_calls_of_c(c, tally, words):
     add_counts(tally, " ".join(words), run([*before, c / program]))
 
 
-@needs("gcc")
-@needs("valgrind")
+@needs("gcc", "valgrind")
 def test_c_under_valgrind(c, tally):
     short = [it for it in asked_of_c() if len(it[1]) <= 2 * SHORT]
     compare(tally, "C under valgrind", short, [*WATCHED, c / "answer"])
@@ -224,7 +217,7 @@ def java_words(classes, library, *options):
     return ["java", *options, f"-Djna.library.path={library}", "-cp", f"{classes}:{JNA}"]
 
 
-needs_java = needs("java", "javac", str(JNA))
+needs_java = needs("java", "javac", JNA)
 
 
 @needs_java

@@ -9,10 +9,10 @@ import shutil
 import subprocess
 import sys
 import tarfile
-from pathlib import Path
 
 import pytest
 from machines import ended
+from needs import needs
 from package_contents import contents, in_folder, inside
 from package_tools import BINARIES, CHANGELOG, DATE, DEBIAN, LIBRARIES, MODULES, PACKAGES, READ, TOP, VERSION, WHEELS, crates_of_kit, told, why_failed
 from tally import differing, fail_if
@@ -107,9 +107,8 @@ def test_texts(tally, found):
     tally.count("pkg-config", differing([], sorted(lines - {*config.splitlines()})))
 
 
+@needs("readelf")
 def test_symbols(tally, found):
-    if not tally.has("readelf", "symbols of the library"):
-        return
     named = re.search(r"SONAME\).*\[(.*)\]", ended(["readelf", "-dW", BINARIES / "libcms_canon.so"]).output)
     tally.count("name of the library for the loader", differing("libcms_canon.so.0", named and named[1]))
     shlibs = found[f"libcms-canon0_{VERSION}-1_amd64.deb!DEBIAN/shlibs"].octets
@@ -256,10 +255,9 @@ def test_jar(tally, found):
 
 # ---- used by themselves
 
+@needs("java", JNA)
 def test_jar_alone(tally, tmp_path):
     """Runs the example over the jar alone, beside a library of the same name that is none of ours."""
-    if not (shutil.which("java") and Path(JNA).exists()):
-        return tally.skip("the jar", f"java and {JNA} are not both installed")
     jar = tmp_path / "cms-canon.jar"
     shutil.copy(PACKAGES / f"cms-canon-{VERSION}.jar", jar)
     empty = tmp_path / "empty"
@@ -282,10 +280,9 @@ def java_words(jar, folder, *words):
     return ["java", *words, "-cp", f"{jar}:{JNA}", TOP / "examples" / "Example.java", TOP / "examples" / "message.ber", folder / "java.der"]
 
 
+@needs("cargo")
 def test_crate_alone(tally, tmp_path):
     """Tests and documents the crate where nothing else of the repository is."""
-    if not tally.has("cargo", "the crate"):
-        return
     environment = {**os.environ, "CARGO_TARGET_DIR": str(tmp_path / "target"), "RUSTDOCFLAGS": "-D warnings"}
     environment.pop("CMS_CANON_LIB_DIR", None)
     with tarfile.open(PACKAGES / f"cms-canon-{VERSION}.crate") as archive:
@@ -306,9 +303,8 @@ def test_crate_alone(tally, tmp_path):
     tally.count("CMS_CANON_LIB_DIR before the crate's own", "" if done.status != 0 and "nowhere/libcms_canon.a" in done.error else told(done))
 
 
+@needs("lintian")
 def test_lintian(tally):
-    if not tally.has("lintian", "lintian"):
-        return
     said = ended(["lintian", "--no-cfg", "--allow-root", "--fail-on", "none", *sorted(PACKAGES.glob("*.deb"))])
     found = [line for line in said.output.splitlines() if line.startswith(("E: ", "W: "))]
     tally.count("lintian", "; ".join(found) if found or said.status == 0 else told(said))
@@ -324,9 +320,8 @@ ODD_STEPS = ("mov    %rbp,%rsp", "leave", "ret    $0x8", "xchg   %rax,%rsp", "le
              "pop    %rsp", "add    %rax,%rsp", "mov    0x8(%rdi),%rsp", "lretq")
 
 
+@needs("readelf")
 def test_hardening(tally):
-    if not tally.has("readelf", "hardening"):
-        return
     for name in ("cms-canon", "libcms_canon.so"):
         shown = ended(["readelf", "-dlnSW", BINARIES / name]).output
         flags = re.findall(r"^ *LOAD +(?:0x\w+ +){5}([RWE ]{3}) 0x", shown, re.M)

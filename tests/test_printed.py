@@ -27,12 +27,10 @@ from pathlib import Path
 
 import pytest
 from machines import clone_into
+from needs import needs
 from programs import DATA_FILES, RELEASE, TOP
 
-pytestmark = [
-    pytest.mark.tree,
-    pytest.mark.skipif(not all(map(shutil.which, ("bash", "git", "openssl"))), reason="bash, git and openssl are not all installed"),
-]
+pytestmark = [pytest.mark.tree, needs("bash", "git", "openssl")]
 
 SECONDS = 120  # no command may take longer
 JNA = "/usr/share/java/jna.jar"
@@ -411,17 +409,14 @@ def blocks_on_many():
     return [it for it in of_manual(PAGE, "MANY MESSAGES") if shutil.which(it.body.split()[0])]
 
 
-needs_man = pytest.mark.skipif(not shutil.which("man"), reason="man is not installed")
-
-
-@needs_man
+@needs("man")
 def test_manual(tally, tmp_path, authority):
     of_many = blocks_on_many()
     tally.count("man cms-canon: commands on many messages", "" if len(of_many) == 2 else f"{len(of_many)}")
     check_recipes(tally, "man cms-canon", [*of_manual(PAGE, "EXAMPLES"), *of_many], tmp_path, authority)
 
 
-@needs_man
+@needs("man")
 def test_manual_of_the_archive(tally, tmp_path):
     for name in ("archive", "dist", "bindings", "docs", "packaging"):
         shutil.copytree(TOP / name, tmp_path / name)
@@ -433,7 +428,7 @@ def test_manual_of_the_archive(tally, tmp_path):
         run_blocks(tally, "man cms-canon-archive", shell, of_manual(ARCHIVE_PAGE, "DESCRIPTION"))
 
 
-@needs_man
+@needs("man")
 def test_not_run(tally):
     """What is not run is printed somewhere."""
     in_documents = [it for name in SAID for it in of_shell(fenced((TOP / name).read_text(encoding="utf-8")))]

@@ -3,13 +3,13 @@
 They are `cms_canon` and `cms_canon_archive`, checked as strictly as mypy can. tests/data/mypy.ini says which packages of others have no types.
 """
 
-import shutil
 import subprocess
 import sys
 import tomllib
 from pathlib import Path
 
 import pytest
+from needs import needs
 from programs import TOP
 
 PACKAGES = {"cms_canon": "bindings/python/", "cms_canon_archive": "archive/"}
@@ -35,9 +35,8 @@ def complaints(*words):
 
 
 @pytest.mark.tree
+@needs("mypy")
 def test_types(tally, tmp_path):
-    if not shutil.which("mypy"):
-        pytest.skip("mypy is not installed")
     if missing := not_installed():
         pytest.skip(f"{', '.join(missing)} not installed for {PYTHON}")
     found = complaints(*(word for package in PACKAGES for word in ("-p", package)))
