@@ -3,7 +3,7 @@ takes eight octets, `check` keeps no content that follows, nothing is gone throu
 only claimed.
 
 Of each message there is the DER, which is to take little more than its own size, and a spelling in BER, whose DER is collected beside it: what
-that takes is printed alone. `check` digests detached content and stamped data in pieces, so what it takes does not grow with them.
+that takes is only printed, and `pytest -s` shows it. `check` digests detached content and stamped data in pieces, so what it takes does not grow with them.
 
 Of the messages that bench/ makes to take long or much, those are here that would take far longer if each signer digested the content or the
 certificates again or looked through all algorithms, or if each member of a set was compared with each other.

@@ -308,8 +308,6 @@ def test_lintian(tally):
     said = ended(["lintian", "--no-cfg", "--allow-root", "--fail-on", "none", *sorted(PACKAGES.glob("*.deb"))])
     found = [line for line in said.output.splitlines() if line.startswith(("E: ", "W: "))]
     tally.count("lintian", "; ".join(found) if found or said.status == 0 else told(said))
-    for line in filter(None, found):
-        print(f"lintian: {line}")
 
 
 # An instruction that changes the stack pointer, or takes a place to return to, otherwise than a shadow stack follows.

@@ -48,8 +48,8 @@ def test_made_again(tally, made_again):
     tally.count("names of the packages", "" if {*kept} == {*made} else f"{sorted({*kept} ^ {*made})}: {FIX}")
     others = sorted(name for name, version in tools_of(kept).items() if tools_of(made).get(name) != version)
     for name in others:
-        print(f"octets are not compared: dist/ was made with {name} {tools_of(kept)[name]}, and this is {tools_of(made).get(name)};"
-              f" not compared are {OF_TOOL.get(name, 'how files are compressed')}")
+        why = f"dist/ was made with {name} {tools_of(kept)[name]}, and this is {tools_of(made).get(name)}"
+        tally.skip(f"octets of {OF_TOOL.get(name, 'how files are compressed')}", why)
     for name in () if others else sorted({*kept} & {*made}):
         tally.count(f"octets/{name}", "" if kept[name] == made[name] else f"it is not what is made of these sources: {FIX}")
     why = difference(kept, made, others)
