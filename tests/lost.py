@@ -5,8 +5,9 @@
 
 A promise is its text with the contract that carries it, from the head of an edit or from none.md; an edit is what it changes, wherever its file is; a
 test written in Rattle is its name; and a function in Python that judges something is known by its name without the word that says so, wherever its
-file is: so a function that moved is there, and of two with one name each counts. What was renamed or put in other words is lost and new: what is lost is listed, with what is new and most like it, so that a reader sees whether the one is the other. If a commit has
-docs/PROMISES.md, the tables that this page has by hand count too. The exit status is 1 if anything is lost.
+file is: so a function that moved is there, and of two with one name each counts. What was renamed or put in other words is lost and new: what is lost
+is listed, with what is new and most like it, so that a reader sees whether the one is the other. If a commit has docs/PROMISES.md, the tables that this
+page has by hand count too. The exit status is 1 if anything is lost.
 """
 
 import difflib
@@ -79,7 +80,8 @@ def numbered(names):
 def found_in(files):
     edits = {(name.split("/")[1], re.sub(r"(?m)^#.*\n?", "", text)) for name, text in files.items() if name.endswith(".edit")}
     rattle = {(name.split("/")[1], it) for name, text in files.items() if name.endswith(".rt") for it in re.findall(r"#\[test\]\s+fn (\w+)", text)}
-    scripts = numbered(it for name, text in files.items() if name.endswith(".py") for it in re.findall(r"^ *def (?:judge|check|count|test|try)_(\w+)", text, re.M))
+    judges = re.compile(r"^ *def (?:judge|check|count|test|try)_(\w+)", re.M)
+    scripts = numbered(it for name, text in files.items() if name.endswith(".py") for it in judges.findall(text))
     rust = {(name, it) for name, text in files.items() if name.endswith(".rs") for it in re.findall(r"#\[test\]\s+fn (\w+)", text)}
     vectors = {(name, it["name"]) for name, text in files.items() if re.fullmatch(r"tests/vectors/[\w-]+\.json", name) for it in json.loads(text)["vectors"]}
     return {

@@ -8,8 +8,8 @@ too, for each function that the prover must then refuse, with a goal of it that 
 
 A function is proved from the contracts of the functions that it calls, not from their bodies. So edits of different functions do not meet, and one
 check says for each function whether its own goals fail; of all functions that no edit of the check names, only the contracts are left
-(tests/support/strip_bodies.py), so that little else is proved. If the prover does not reach the goals, because a function that is called is refused, the edit is
-tried again in a later check. An edit that changes more than the bodies of functions is tried alone. A function that is refused, and that no edit
+(tests/support/strip_bodies.py), so that little else is proved. If the prover does not reach the goals, because a function that is called is refused,
+the edit is tried again in a later check. An edit that changes more than the bodies of functions is tried alone. A function that is refused, and that no edit
 names, counts as a failure. With --good the same functions are checked as they are, with no edit: none may be refused. So it is the edits that are
 refused, and not what is left of the crate around them.
 
