@@ -4,6 +4,10 @@ A test that compares many things counts each with the fixture `tally`, and fails
 one check. A test that asks for a tally and counts nothing fails.
 """
 
+import importlib
+import os
+import shutil
+import sys
 from pathlib import Path
 
 import pytest
@@ -27,6 +31,8 @@ def pytest_pyfunc_call(pyfuncitem):
     if tally is None:
         return
     pyfuncitem.user_properties.append((COUNTED, (tally.passed, len(tally.failures), tally.skips)))
+    if outcome.excinfo:
+        print(*tally.failures, sep="\n")
     outcome.get_result()
     if tally.failures:
         pytest.fail("\n".join(tally.failures), pytrace=False)
@@ -49,7 +55,7 @@ class Counts:
         passed, failed, skipped = counted or (report.passed and report.when == "call", 0, [])
         self.passed += passed
         self.failed += max(failed, report.failed)
-        self.skipped += skipped or ([report.longrepr[2]] if report.skipped else [])
+        self.skipped += skipped or ([f"{report.nodeid}: {report.longrepr[2].removeprefix('Skipped: ')}"] if report.skipped else [])
 
     def pytest_unconfigure(self):
         for line in self.skipped:
@@ -59,6 +65,19 @@ class Counts:
 
 def pytest_addoption(parser):
     parser.addoption("--built", metavar="FOLDER", type=Path, default=TOP, help="where `rt ci` has built the programs: here, if none is given")
+    parser.addoption("--program", metavar="FILE", type=Path, help="the program that is tried: the one that `rt ci` has built, if none is given")
+
+
+def pytest_configure(config):
+    if not hasattr(config, "workerinput"):
+        config.pluginmanager.register(Counts())
+
+
+@pytest.fixture(scope="session", autouse=True)
+def emptied(tmp_path_factory):
+    """Leaves nothing in the folders of the tests."""
+    yield
+    shutil.rmtree(tmp_path_factory.getbasetemp(), ignore_errors=True)
 
 
 @pytest.fixture(scope="session")
@@ -67,6 +86,52 @@ def built(request):
     return request.config.getoption("--built").resolve()
 
 
-def pytest_configure(config):
-    if not hasattr(config, "workerinput"):
-        config.pluginmanager.register(Counts())
+def built_program(path):
+    if not os.access(path, os.X_OK):
+        pytest.fail(f"there is no program {path}: `rt ci` builds it, and --built=FOLDER names where it has done so", pytrace=False)
+    return path
+
+
+@pytest.fixture(scope="session")
+def program(request, built):
+    """The command that is tried."""
+    given = request.config.getoption("--program")
+    return built_program(given.resolve() if given else built / "crates" / "cms_canon_program" / "out" / "cms_canon_program")
+
+
+@pytest.fixture(scope="session")
+def library(built):
+    """The program that calls the library as a test asks."""
+    return built_program(built / "crates" / "cms_test_driver" / "out" / "cms_test_driver")
+
+
+@pytest.fixture(scope="module")
+def tools(tmp_path_factory):
+    """openssl and gpgsm, in a folder of their own."""
+    from real_messages import Tools
+
+    if not shutil.which("openssl"):
+        pytest.skip("openssl is not installed")
+    tools = Tools(tmp_path_factory.mktemp("tools"))
+    yield tools
+    if tools.gnupg.exists() and shutil.which("gpgconf"):  # what GnuPG started for its folder would end only when that is gone
+        tools.run("gpgconf --kill all")
+
+
+@pytest.fixture(scope="module")
+def authority(tools):
+    """These tools, with the keys, certificates and lists that messages are made with."""
+    from real_messages import set_up
+
+    set_up(tools)
+    return tools
+
+
+@pytest.fixture(scope="session")
+def package(tmp_path_factory):
+    """The Python package with the released library, from a folder of its own."""
+    home = tmp_path_factory.mktemp("python") / "cms_canon"
+    shutil.copytree(TOP / "bindings" / "python" / "cms_canon", home)
+    shutil.copy(TOP / "dist" / "x86_64-linux" / "libcms_canon.so", home)
+    sys.path.insert(0, str(home.parent))
+    return importlib.import_module("cms_canon")

@@ -18,11 +18,11 @@ import time
 from pathlib import Path
 
 TOP = Path(__file__).resolve().parent.parent
-sys.path.insert(0, str(TOP / "tests"))
+sys.path.insert(0, str(TOP / "tests" / "support"))
 
 from elements import element  # noqa: E402
 from signatures import judged, make_signature  # noqa: E402
-from run_vectors import octets_of, read_vectors  # noqa: E402
+from programs import octets_of, read_vectors  # noqa: E402
 
 LARGEST_READ = 25e-6  # seconds, of a signature of one signer
 LARGEST_VERIFIED = 0.2  # seconds

@@ -14,9 +14,9 @@ from hashlib import sha256
 from pathlib import Path
 
 TOP = Path(__file__).resolve().parent.parent
-sys.path.insert(0, str(TOP / "tests"))
+sys.path.insert(0, str(TOP / "tests" / "support"))
 
-from memory import detached_by  # noqa: E402
+from signed_by_digest import signed_by  # noqa: E402
 from calls import package  # noqa: E402
 
 MIB = 4096
@@ -46,7 +46,7 @@ def main(words):
     with tempfile.TemporaryDirectory(prefix="documents-") as folder:
         package(folder)
         message, document = Path(folder, "message"), Path(folder, "document")
-        message.write_bytes(detached_by(digest_of_zeros(mebibytes)))
+        message.write_bytes(signed_by(digest_of_zeros(mebibytes)))
         with document.open("wb") as file:
             file.truncate(mebibytes << 20)
         ended = subprocess.run([sys.executable, "-c", CHECK, message, document], cwd=folder, capture_output=True, text=True, check=True)

@@ -3,7 +3,7 @@
 
     python3 bench/million.py [FIRST_SEED [RUNS [INPUTS]]]
 
-Each of RUNS runs has a seed of its own, from FIRST_SEED on, and converts INPUTS inputs: messages that tests/generated_messages.py spells
+Each of RUNS runs has a seed of its own, from FIRST_SEED on, and converts INPUTS inputs: messages that tests/support/generated_messages.py spells
 in BER at random, of which the DER is known or the refusal, and their DER; and each of them spoilt at one to three places, several times:
 it is then refused, or what is written for it is written again unchanged. If a call takes more than a second or gives another result, its
 seed and its octets are printed, and if a run crashes its seed. The calls are made in the process itself, by the Python package.
@@ -116,7 +116,7 @@ def main(words):
 
 
 if __name__ == "__main__":
-    sys.path.insert(0, str(TOP / "tests"))
+    sys.path.insert(0, str(TOP / "tests" / "support"))
     if sys.argv[1:2] == ["--run"]:
         sys.path.insert(0, sys.argv[2])
         run_of(int(sys.argv[3]), int(sys.argv[4]))

@@ -24,7 +24,7 @@ from pathlib import Path
 from typing import NamedTuple, Optional
 
 TOP = Path(__file__).resolve().parent.parent
-sys.path.insert(0, str(TOP / "tests"))
+sys.path.insert(0, str(TOP / "tests" / "support"))
 
 from contents import canonical, in_segments  # noqa: E402
 from elements import contents_of, element  # noqa: E402

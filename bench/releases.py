@@ -5,7 +5,7 @@
 
 OLD and NEW are folders with a `libcms_canon.so`, as dist/x86_64-linux. The inputs are all octets in the vectors, as they are and spoilt;
 messages that openssl makes, if it is installed, and those of examples/, as they are, cut by an octet and spoilt; the messages of bench/worst.py, of 3 kB and 100
-kB, whole and cut by an octet; and MESSAGES messages that tests/generated_messages.py spells at random, half of them spoilt. Each library
+kB, whole and cut by an octet; and MESSAGES messages that tests/support/generated_messages.py spells at random, half of them spoilt. Each library
 has a process of its own for each kind of input, and prints a sum of all that it returns for each. Sums that differ are printed with their inputs.
 """
 
@@ -200,7 +200,7 @@ def main(words):
 
 
 if __name__ == "__main__":
-    sys.path[:0] = [str(TOP / "tests"), str(TOP / "bench")]
+    sys.path[:0] = [str(TOP / "tests" / "support"), str(TOP / "bench")]
     if sys.argv[1:2] == ["--run"]:
         run_of(sys.argv[2], sys.argv[3], int(sys.argv[4]), int(sys.argv[5]))
     else:

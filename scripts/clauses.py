@@ -8,7 +8,7 @@ try them: of each field of a record, that it follows from the other fields; of a
 that it holds of any arguments. Where values may be chosen, it tries [], 0, None and what is given of the same type, and supposes one of a
 type that has none of these; a statement that applies a parameter, as `P contents`, may be assumed. It prints what was proved, and what it
 has no lemma for. That a tactic fails is no proof that something is excluded, so tests/data/clauses.toml says what shows it;
-tests/lint_repo.py asks for a line for each field of a record there.
+tests/test_lint.py asks for a line for each field of a record there.
 """
 
 import os

@@ -13,7 +13,6 @@ from typing import Iterator, NamedTuple
 
 TOP = Path(__file__).resolve().parent.parent
 CALLED = re.compile(r"^    ((?:/usr/bin/)?python3 .*)$", re.M)
-OF_OTHERS = ("faulty_worker.py",)  # what a test calls, and nobody else
 
 
 class Script(NamedTuple):
@@ -39,13 +38,16 @@ def commands() -> Iterator[Script]:
 
 
 def tests_and_benches() -> Iterator[Script]:
-    """Gives each test and each bench. Raises `SystemExit` if one does not say how it is called."""
+    """Gives each file of tests, and each script beside them or in bench/. Raises `SystemExit` if a script does not say how it is called."""
     files = [it for folder in ("", "archive/") for kind in ("tests", "bench") for it in sorted(TOP.glob(f"{folder}{kind}/*.py"))]
     for file in files:
         text = file.read_text(encoding="utf-8")
         said = ast.get_docstring(ast.parse(text), clean=False) or ""
         called = CALLED.search(said)
-        if '__name__ == "__main__"' not in text or file.name in OF_OTHERS:
+        if file.name.startswith("test_"):
+            yield Script(f"pytest {file.relative_to(TOP)}", first_sentence(said))
+            continue
+        if '__name__ == "__main__"' not in text:
             continue
         if not called:
             raise SystemExit(f"{file.relative_to(TOP)}: its docstring does not say how it is called")

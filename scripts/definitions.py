@@ -6,7 +6,7 @@
 
 The first line names the definition and says what it is, and in brackets its place in a standard. A line that begins with `|` is a sentence of its
 own, and one that is indented goes on. A comment names what is below it, with no more arguments than that takes, and those in a record name each of
-its fields, or none: tests/lint_repo.py checks both. A public definition that no such comment names has the words of the comment of two dashes
+its fields, or none: tests/test_lint.py checks both. A public definition that no such comment names has the words of the comment of two dashes
 right above it. The definitions are in the order of crates.txt and of the names of files, those of a file as they stand in it.
 """
 

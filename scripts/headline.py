@@ -334,7 +334,7 @@ of [crates/cms_example](../crates/cms_example/src/lib.rt), which a user of the l
 promise is proved from its public contracts alone. This page has each definition that the two contracts reach, from below: it comes after
 those that it uses, unless they use one another. `scripts/proof` writes a page that says in words what each of them says.
 
-`scripts/headline.py` writes this page from the sources. `tests/lint_repo.py` checks that it is up to date, and that each name in it means
+`scripts/headline.py` writes this page from the sources. `tests/test_lint.py` checks that it is up to date, and that each name in it means
 a definition of this page, something that the kit or the code declares, or a variable.
 
 ## In words

@@ -50,7 +50,7 @@ These words recur:
   `ContentsChoice`, `Selected`, `Then`, `OptionalThen`, `Last`, `Option`, `Box` and `Received`. A record that no promise names is a term of its parts,
   without code: what is read and written for it is promised there.
 - **Faults of** calls are what a fault leaves, and what success says. A failure of the reader is never lost: on success its count of failures is
-  what it was, and `Read` says that the count rose. `tests/faults.py` makes each growth of memory, each read and each write of the built
+  what it was, and `Read` says that the count rose. `tests/test_faults.py` makes each growth of memory, each read and each write of the built
   programs fail in turn. The other tests are in the crates of tests, which `./run-tests` runs and which are not proved.
 - **The octets taken at** a refusal are what its reason says of them. For E1 to E5, E8 to E11, E17 and E18 the clauses `reasons` and `faults` of the
   reading calls carry that, `why` of each call that reads a field or contents, and `faults` of `read_message` and the calls that read by it (`SayWhy`).

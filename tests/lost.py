@@ -4,9 +4,10 @@
     python3 tests/lost.py COMMIT
 
 A promise is its text with the contract that carries it, from the head of an edit or from none.md; an edit is what it changes, wherever its file is; a
-test written in Rattle is its name; and a function of a test in Python that judges something is known by its name. What was renamed or put in other
-words is lost and new: what is lost is listed, with what is new and most like it, so that a reader sees whether the one is the other. If a commit has
-docs/PROMISES.md, the tables that this page has by hand count too. The exit status is 1 if anything is lost.
+test written in Rattle is its name; and a function in Python that judges something is known by its name without the word that says so, wherever its
+file is: so a function that moved is there, and of two with one name each counts. What was renamed or put in other words is lost and new: what is lost
+is listed, with what is new and most like it, so that a reader sees whether the one is the other. If a commit has docs/PROMISES.md, the tables that this
+page has by hand count too. The exit status is 1 if anything is lost.
 """
 
 import difflib
@@ -16,6 +17,7 @@ import re
 import subprocess
 import sys
 import tarfile
+from collections import Counter
 from pathlib import Path
 
 TOP = Path(__file__).resolve().parent.parent
@@ -66,19 +68,26 @@ def promises_in(files):
     found = [it for name, text in files.items() if name.endswith(".edit") for it in Edit(name, text).promises]
     found += [it for name, text in files.items() if name.endswith("/must-fail/none.md") for it in promises_without_edits(text)]
     by_hand = (promise_by_hand(*it) for it in rows_by_hand(files.get(PAGE, "")))
-    return {*(f"{it.text} | {it.carried}" for it in found), *by_hand}
+    said = {*(f"{it.text} | {it.carried}" for it in found), *by_hand}
+    return {re.sub(r"tests/(?:support/|test_)(?=\w+\.py)", "tests/", it) for it in said}  # wherever the file of a test is
+
+
+def numbered(names):
+    """Returns these names, each further one of the same name with its number."""
+    return {name if number == 1 else f"{name} ({number})" for name, count in Counter(names).items() for number in range(1, count + 1)}
 
 
 def found_in(files):
     edits = {(name.split("/")[1], re.sub(r"(?m)^#.*\n?", "", text)) for name, text in files.items() if name.endswith(".edit")}
     rattle = {(name.split("/")[1], it) for name, text in files.items() if name.endswith(".rt") for it in re.findall(r"#\[test\]\s+fn (\w+)", text)}
-    scripts = {(name, it) for name, text in files.items() if name.endswith(".py") for it in re.findall(r"^ *def ((?:judge|check|test)_\w+)", text, re.M)}
+    judges = re.compile(r"^ *def (?:judge|check|count|test|try)_(\w+)", re.M)
+    scripts = numbered(it for name, text in files.items() if name.endswith(".py") for it in judges.findall(text))
     rust = {(name, it) for name, text in files.items() if name.endswith(".rs") for it in re.findall(r"#\[test\]\s+fn (\w+)", text)}
     vectors = {(name, it["name"]) for name, text in files.items() if re.fullmatch(r"tests/vectors/[\w-]+\.json", name) for it in json.loads(text)["vectors"]}
     return {
         "promises": promises_in(files), "edits": {": ".join(it) for it in edits},
         "tests in Rattle": {": ".join(it) for it in rattle}, "tests in Rust": {": ".join(it) for it in rust},
-        "checks in Python": {": ".join(it) for it in scripts}, "vectors": {": ".join(it) for it in vectors},
+        "checks in Python": scripts, "vectors": {": ".join(it) for it in vectors},
     }
 
 

@@ -51,3 +51,16 @@ class Tally:
 def count(name, complaint=""):
     """Counts a check in the tally of the test that runs."""
     Tally.running.count(name, complaint)
+
+
+def fail_if(complaint):
+    """Fails the test that runs, which is one check, if there is a complaint."""
+    assert not complaint, complaint
+
+
+def ended(tally):
+    """Prints the counts of a script that is no test of pytest, and returns its status."""
+    for line in tally.failures:
+        print(f"FAILED {line}")
+    print(f"{tally.passed} passed, {len(tally.failures)} failed, {len(tally.skips)} skipped")
+    return 0 if tally.passed and not tally.failures else 1

@@ -377,7 +377,7 @@ class Reluctant(io.BytesIO):
 
 
 class Documents(unittest.TestCase):
-    """Content and data that come in pieces; tests/libraries.py asks for those of the vectors."""
+    """Content and data that come in pieces; tests/test_libraries.py asks for those of the vectors."""
 
     CONTENT = b"the content of a message" * 100
     MESSAGE = detached(sha256(CONTENT).digest())

@@ -1,4 +1,4 @@
-//! Calls what the requests ask for that `tests/rust.py` makes from the vectors and from messages made at random, as the callers of
+//! Calls what the requests ask for that `tests/test_rust.py` makes from the vectors and from messages made at random, as the callers of
 //! the other languages do, and compares findings by digests with those by the octets. `CMS_CANON_REQUESTS` names the file of the
 //! requests, in which each is followed by the result that is wanted, a line each.
 
@@ -160,7 +160,7 @@ fn called(request: &str) -> Result<String, Error> {
 #[test]
 fn results_are_those_wanted() {
     let Some(file) = env::var_os("CMS_CANON_REQUESTS") else {
-        return eprintln!("CMS_CANON_REQUESTS names no file: tests/rust.py makes one");
+        return eprintln!("CMS_CANON_REQUESTS names no file: tests/test_rust.py makes one");
     };
     let text = fs::read_to_string(file).unwrap();
     let lines: Vec<_> = text.lines().collect();

@@ -1,0 +1,58 @@
+#!/usr/bin/env python3
+"""Makes one call of a library for C, with values for whatever its prototype asks for, and prints its status and a sum of what it writes.
+
+    python3 tests/one_call.py LIBRARY CALL MESSAGE TST_INFO
+
+MESSAGE and TST_INFO are files. No content and no data are given, the path is 0, the part is 1, and there is room for 4,096 members.
+"""
+
+import ctypes
+import hashlib
+import sys
+from pathlib import Path
+
+sys.path.insert(0, str(Path(__file__).resolve().parents[2] / "scripts"))
+
+from calls import calls  # noqa: E402
+
+ROOM, LARGEST = 4096, 128  # members of an array; octets of a member, or of an outcome
+FILL = b"\xa5" * (ROOM * LARGEST)
+LIMIT = 1 << 24
+NUMBERS = {"bool": ctypes.c_bool(False), "uint32_t": ctypes.c_uint32(1), "uint64_t": ctypes.c_uint64(LIMIT)}
+INPUTS = ("input", "first", "second")
+
+
+def made(library, call, message, tst_info):
+    """Makes the call, and returns the octets of its outcome, and those of the outputs and arrays that it was handed."""
+    given = {**dict.fromkeys(INPUTS, message), "content": tst_info}
+    words, length, writable = [], 0, []
+    for kind, name in call.arguments:
+        if kind == "size_t":
+            words.append(ctypes.c_size_t(length))
+        elif kind in NUMBERS:
+            words.append(NUMBERS[kind])
+        elif kind == "const uint64_t *":
+            length = 1
+            words.append((ctypes.c_uint64 * length)())
+        elif kind.startswith("const "):
+            octets = given.get(name, b"") if kind == "const uint8_t *" else b""
+            length = len(octets)
+            words.append(ctypes.create_string_buffer(octets, length + 1))
+        else:
+            length = ROOM
+            writable.append(ctypes.create_string_buffer(FILL, len(FILL)))
+            words.append(writable[-1])
+    getattr(library, call.name)(*words)
+    *outputs, outcome = [it.raw for it in writable]
+    return outcome, outputs
+
+
+def main(library, name, *files):
+    call = next(it for it in calls() if it.name == name)
+    outcome, outputs = made(ctypes.CDLL(library), call, *(Path(it).read_bytes() for it in files))
+    status, wrote = int.from_bytes(outcome[:4], sys.byteorder), any(it != FILL for it in outputs)
+    print(status, hashlib.sha256(b"".join([outcome, *outputs])).hexdigest() if wrote or status == 0 else "nothing")
+
+
+if __name__ == "__main__":
+    main(*sys.argv[1:])

@@ -1,0 +1,423 @@
+"""Asks the released library where the fields of messages lie, and the Python package what they are, and compares what comes with
+what walk.py finds, a reader of its own.
+
+The messages are all octets in the vectors, those that openssl, gpgsm and BouncyCastle make for the other tests, tokens whose
+TSTInfo is changed, and MESSAGES made at random, ten spellings in BER of each value: signed messages with countersignatures,
+requests, responses and tokens. Of each it is checked that
+
+- a message that is refused is refused as `cms_canon_convert` refuses it, and as `read` of the package raises it;
+- the rows are those of the walk, each in its place, and are the same with just enough room; with less room none is written;
+- `cms_canon_cover` and `cms_canon_part` write what the walk finds;
+- each attribute of the object is what the walk finds, and so is what `to_json` writes;
+- the content of a token is refused as a TSTInfo if `show` says that it is none.
+
+In the messages made at random each kind of row has to occur, and each field that may be absent has to be absent somewhere.
+"""
+
+import ctypes
+import json
+import struct
+import sys
+from collections import Counter, namedtuple
+from datetime import datetime
+from random import Random
+from typing import NamedTuple
+
+import countersignatures
+import generated_messages
+import openssl_tokens
+import pytest
+import real_messages
+from elements import ID_CT_TST_INFO, element as written, message as message_of, oid, token_around
+from generated_messages import SEED, OctetString, Primitive, Sequence, TrueOrAbsent, any_opaque, sometimes
+from programs import RELEASE, VECTORS
+from tst_model import tst_info_of
+from walk import KINDS, TST_INFO, Row, countersignatures_of, fields_of, fields_of_tst_info, parts_of
+
+MESSAGES = 20_000
+SPELLINGS = 10  # of each message made at random, the last one in DER
+MOST_SIGNERS = 10  # of a message whose parts are asked for: each call reads the whole message
+LIMIT = 1 << 28
+NO_CONTENT, NO_PART, NO_TST_INFO = 103, 104, 105
+EXACT = (1 << 53) - 1  # the largest whole number that to_json writes as one
+
+OPTIONAL = {  # what may be absent, by the row that is there all the same
+    "SIGNED_DATA": ("DIGEST_ALGORITHM", "CONTENT", "CERTIFICATES", "CERTIFICATE", "CRLS", "CRL", "SIGNER"),
+    "SIGNER": ("ISSUER", "SUBJECT_KEY_IDENTIFIER", "SIGNED_ATTRIBUTES", "UNSIGNED_ATTRIBUTES", "COUNTERSIGNATURE", "PARAMETERS"),
+    "ATTRIBUTE": ("VALUE",),
+    "REQUEST": ("REQUEST_POLICY", "REQUEST_NONCE", "CERT_REQ", "REQUEST_EXTENSIONS"),
+    "RESPONSE": ("STATUS_STRING", "FAIL_INFO", "SIGNED_DATA"),
+    "TST_INFO": ("ACCURACY", "ORDERING", "TST_NONCE", "TSA", "TST_EXTENSIONS"),
+    "ACCURACY": ("SECONDS", "MILLIS", "MICROS"),
+}
+seen = Counter()  # kinds of rows that a message has, and pairs of one that it has and one that it has not
+
+ROW = struct.Struct("=QQII")
+UNTOUCHED = b"\xa5"
+
+
+class Outcome(ctypes.Structure):
+    _fields_ = [
+        ("status", ctypes.c_uint32), ("reason", ctypes.c_uint32), ("at", ctypes.c_uint64), ("octets", ctypes.c_uint64),
+        ("name", ctypes.c_char * 24),
+    ]
+
+
+class Answer(NamedTuple):
+    status: int
+    reason: int
+    at: int
+    octets: int
+    name: str
+    output: bytes
+
+    @property
+    def refusal(self):
+        return self.status, self.reason, self.at, self.name
+
+    @property
+    def rows(self):
+        return [Row(*it) for it in ROW.iter_unpack(self.output)]
+
+
+def words_of(octets):
+    return octets, ctypes.c_size_t(len(octets))
+
+
+def path_of(numbers):
+    return (ctypes.c_uint64 * len(numbers))(*numbers), ctypes.c_size_t(len(numbers))
+
+
+class Library:
+    def __init__(self):
+        self.calls = ctypes.CDLL(str(RELEASE / "libcms_canon.so"))
+
+    def asked(self, name, room, *words, size=1):
+        """Returns what the library writes, for which there is room for so many items of this size. Nothing else may be written."""
+        outcome, output = Outcome(), bytearray(UNTOUCHED * (room * size + ROW.size))
+        address = ctypes.c_void_p(ctypes.addressof(ctypes.c_char.from_buffer(output)))
+        getattr(self.calls, f"cms_canon_{name}")(*words, address, ctypes.c_size_t(room), ctypes.byref(outcome))
+        count = outcome.octets * size if outcome.status == 0 else 0
+        assert output.count(UNTOUCHED, count) == len(output) - count, f"{name} wrote more than it says"
+        said = outcome.status, outcome.reason, outcome.at, outcome.octets, outcome.name.decode()
+        return Answer(*said, bytes(output[:count]))
+
+    def convert(self, octets, limit=LIMIT):
+        return self.asked("convert", len(octets) + 64, *words_of(octets), ctypes.c_uint64(limit))
+
+    def fields(self, octets, limit=LIMIT, room=None):
+        room = len(octets) // 2 if room is None else room
+        return self.asked("fields", room, *words_of(octets), ctypes.c_uint64(limit), size=ROW.size)
+
+    def tst_info_fields(self, octets, room=None):
+        return self.asked("tst_info_fields", len(octets) // 2 if room is None else room, *words_of(octets), size=ROW.size)
+
+    def cover(self, octets, path, content):
+        given = content or b""
+        words = *words_of(octets), *path_of(path), *words_of(given), ctypes.c_bool(content is not None), ctypes.c_uint64(LIMIT)
+        return self.asked("cover", len(octets) + len(given), *words)
+
+    def part(self, octets, path, number):
+        words = *words_of(octets), *path_of(path), ctypes.c_uint32(number), ctypes.c_uint64(LIMIT)
+        return self.asked("part", len(octets), *words)
+
+
+Asker = namedtuple("Asker", "library package")
+
+
+@pytest.fixture
+def asker(package):
+    return Asker(Library(), package)
+
+
+# ---- what is wrong with what is said of a message: the first thing, or an empty text
+
+def judged(complaints):
+    return next((it for it in complaints if it), "")
+
+
+def differ(what, wanted, came):
+    return "" if came == wanted else f"{what}: wanted {str(wanted)[:200]}, came {str(came)[:200]}"
+
+
+def complaints_of_refusal(asker, octets, limit, refusal):
+    """Yields what differs if a message is refused, from how `cms_canon_convert` refuses it."""
+    yield differ("refused", refusal, asker.library.fields(octets, limit).refusal)
+    try:
+        asker.package.read(octets, limit)
+        yield "the package does not refuse it"
+    except asker.package.Refused as refused:
+        yield differ("refused by the package", refusal, (3, refused.reason, refused.at, refused.name))
+
+
+def complaints_of_room(ask, rows):
+    """Yields what differs if there is less room than needed, or just enough."""
+    needed = len(rows)
+    for room in sorted({0, needed // 2, needed - 1}):
+        came = ask(room)
+        yield differ(f"room for {room} of {needed}", (6, 0, 0, needed, ""), came[:5])
+    yield differ("just enough room", rows, ask(needed).rows)
+
+
+def complaint_of_rows(wanted, came):
+    if came.status != 0:
+        return f"wanted rows, came {came[:5]}"
+    for number, (due, row) in enumerate(zip(wanted, came.rows)):
+        if row != due:
+            return f"row {number}: wanted {due}, came {row}"
+    return differ("rows", len(wanted), came.octets)
+
+
+def complaints_of_signer(library, octets, path, signer, detached):
+    """Yields what differs of a signer from the other calls, and of its countersignatures."""
+    covered = library.cover(octets, path, detached)
+    if signer["covered"] is None:
+        yield differ(f"cover {path}", NO_CONTENT, covered.reason)
+    else:
+        yield differ(f"cover {path}", (0, signer["covered"]), (covered.status, covered.output))
+    for number, part in parts_of(signer):
+        came = library.part(octets, path, number)
+        yield differ(f"part {number} of {path}", (0, part) if part is not None else (NO_PART, b""), (came.reason, came.output))
+    for number, inner in enumerate(countersignatures_of(signer)):
+        yield from complaints_of_signer(library, octets, [*path, number], inner, detached)
+
+
+def complaints_of_value(package, name, wanted, came, detached):
+    """Yields what differs between what the walk finds and what an object says."""
+    if name == "covered":
+        try:
+            covered = came(detached)
+        except package.Refused as refused:
+            covered = refused.reason
+        yield differ(name, NO_CONTENT if wanted is None else wanted, covered)
+    elif isinstance(wanted, dict):
+        for key, value in wanted.items():
+            inner = came.covered if key == "covered" else getattr(came, key, "no such attribute")
+            yield from complaints_of_value(package, key, value, inner, detached)
+    elif isinstance(wanted, list):
+        yield differ(f"{name}: a tuple of as many", (tuple, len(wanted)), (type(came), len(came or ())))
+        for due, one in zip(wanted, came):
+            yield from complaints_of_value(package, name, due, one, detached)
+    elif isinstance(wanted, bytes):
+        yield differ(name, wanted, bytes(came) if isinstance(came, (bytes, memoryview)) else came)
+    else:
+        yield differ(name, (type(wanted), wanted), (type(came), came))
+
+
+def json_of(value):
+    if isinstance(value, dict):
+        return {key: json_of(it) for key, it in value.items() if key != "covered"}
+    if isinstance(value, (list, tuple)):
+        return [json_of(it) for it in value]
+    if isinstance(value, datetime):
+        fraction = f".{value.microsecond:06}" if value.microsecond else ""
+        return f"{value.year:04}{value.strftime('-%m-%dT%H:%M:%S')}{fraction}+00:00"
+    if isinstance(value, int) and abs(value) > EXACT:
+        length = next(it for it in range(1, 1 << 30) if -(1 << 8 * it - 1) <= value < 1 << 8 * it - 1)
+        return f"0x{value.to_bytes(length, 'big', signed=True).hex()}"
+    return value.hex() if isinstance(value, bytes) else value
+
+
+def complaints_of_object(package, octets, kind, values, tst_info, detached):
+    """Yields what differs of the object. `tst_info` is what the TSTInfo says, None if there is none, or why it is none."""
+    message = package.read(octets)
+    yield differ("kind", kind, message.kind)
+    yield differ("request", kind == "request", message.request is not None)
+    yield differ("response", kind == "response", message.response is not None)
+    part = {"signed-data": message.signed_data, "request": message.request, "response": message.response}[kind]
+    yield from complaints_of_value(package, kind, values, part, detached)
+    signed_data = signed_data_of(kind, values)
+    if signed_data is None:
+        absent = ("signed_data", "version", "content_type", "content", "certificates", "crls", "tst_info")
+        yield differ("without a SignedData", [None] * 7, [getattr(message, it) for it in absent])
+        yield differ("without a SignedData", ((), ()), (message.signers, message.digest_algorithms))
+    else:
+        others = [it for it in signed_data if getattr(message, it) is not getattr(message.signed_data, it)]
+        yield differ("fields of the message that are not those of its SignedData", [], others)
+        try:
+            came = message.tst_info
+        except package.Refused as refused:
+            came = {"refused": refused.name}
+            yield differ("tst_info", (NO_TST_INFO, None), (refused.reason, refused.at))
+        if isinstance(came, dict) or tst_info is None or "refused" in tst_info:
+            yield differ("tst_info", tst_info, came)
+        else:
+            yield from complaints_of_value(package, "tst_info", tst_info, came, None)
+    wanted = json_of(values)
+    if kind != "request" and (inner := wanted.get("token", wanted)) is not None:
+        inner["tst_info"] = json_of(tst_info)
+    yield differ("to_json", {"kind": kind, **(wanted if kind == "signed-data" else {kind: wanted})}, json.loads(message.to_json()))
+
+
+def signed_data_of(kind, values):
+    return {"signed-data": values, "request": None, "response": values.get("token")}[kind]
+
+
+def judge_tst_info(asker, content, is_right):
+    """Returns what is wrong with the rows of a content, or else what they say of it."""
+    came = asker.library.tst_info_fields(content)
+    if not is_right:
+        return differ("TSTInfo refused", (3, NO_TST_INFO, 0, "not a TSTInfo in DER"), came.refusal), {"refused": came.name}
+    rows, values = fields_of_tst_info(content)
+    note(rows)
+    complaint = complaint_of_rows(rows, came)
+    return complaint or judged(complaints_of_room(lambda room: asker.library.tst_info_fields(content, room), rows)), values
+
+
+def note(rows):
+    there = {row.kind for row in rows}
+    seen.update(there)
+    for name, others in OPTIONAL.items():
+        if KINDS[name] in there:
+            seen.update((name, other) for other in others if KINDS[other] not in there)
+
+
+def complaints_of_message(asker, octets, detached):
+    converted = asker.library.convert(octets)
+    if converted.status != 0:
+        yield from complaints_of_refusal(asker, octets, LIMIT, (*converted.refusal[:2], converted.at, converted.name))
+        return
+    yield from complaints_of_refusal(asker, octets, len(octets) - 1, asker.library.convert(octets, len(octets) - 1).refusal)
+    rows, kind, values = fields_of(octets, detached)
+    note(rows)
+    yield complaint_of_rows(rows, asker.library.fields(octets))
+    yield from complaints_of_room(lambda room: asker.library.fields(octets, room=room), rows)
+    signed_data, tst_info = signed_data_of(kind, values), None
+    if signed_data is not None:
+        for number, signer in enumerate(signed_data["signers"][:MOST_SIGNERS]):
+            yield from complaints_of_signer(asker.library, octets, [number], signer, detached)
+        for number, certificate in enumerate((signed_data["certificates"] or [])[:MOST_SIGNERS]):
+            yield differ(f"certificate {number}", certificate, asker.library.part(octets, [number], 9).output)
+        if signed_data["content_type"] == TST_INFO and signed_data["content"] is not None:
+            is_right = "\ntst: not der\n" not in asker.package.show(octets)
+            complaint, tst_info = judge_tst_info(asker, signed_data["content"], is_right)
+            yield complaint
+    yield from complaints_of_object(asker.package, octets, kind, values, tst_info, detached)
+
+
+def judge(tally, asker, name, octets, detached=None):
+    try:
+        complaint = judged(complaints_of_message(asker, octets, detached))
+    except Exception as error:  # whatever the package raises that it should not
+        complaint = repr(error)
+    tally.count(name, complaint and f"{complaint}, of {octets[:500].hex()}")
+
+
+def octets_in(value):
+    if isinstance(value, str):
+        try:
+            yield bytes.fromhex(value)
+        except ValueError:
+            pass
+    elif isinstance(value, (dict, list)):
+        for it in value.values() if isinstance(value, dict) else value:
+            yield from octets_in(it)
+
+
+def test_vectors(asker, tally):
+    """All octets in the vectors, as a message and as the content of a token."""
+    found = {octets for file in sorted(VECTORS.glob("*.json")) for octets in octets_in(json.loads(file.read_text()))} - {b""}
+    for octets in sorted(found):
+        judge(tally, asker, "vector", octets)
+        judge(tally, asker, "vector in a token", token_around(octets))
+
+
+def test_tools(asker, tools, tally):
+    """What openssl and gpgsm make, and tokens of openssl with one field of the TSTInfo changed."""
+    made = openssl_tokens.make_all(tools)
+    for message in real_messages.all_messages(tools, tally):
+        judge(tally, asker, message.name, message.octets)
+        judge(tally, asker, f"{message.name}, with content", message.octets, b"content")
+    for name, token in made.items():
+        for kind in ("request", "response", "token"):
+            judge(tally, asker, f"{name}, {kind}", getattr(token, kind))
+    for name, content, findings in openssl_tokens.contents_changed(tst_info_of(made["full-sha256"].token)):
+        complaint, _ = judge_tst_info(asker, content, "13" not in findings)
+        tally.count(f"content/{name}", complaint)
+        judge(tally, asker, f"token/{name}", token_around(content))
+
+
+def test_countersignatures(asker, tools, tally):
+    if missing := countersignatures.missing_for_java():
+        return tally.skip("BouncyCastle", f"{', '.join(missing)} not installed")
+    countersignatures.make_keys(tools)
+    countersignatures.build_java(tools)
+    random, plans = Random(SEED), [*countersignatures.plans()]
+    made = countersignatures.bouncy_castle(tools, "make", [f"{form} {signers}" for _, form, signers in plans])
+    for (name, form, _), octets in zip(plans, map(bytes.fromhex, made)):
+        detached = countersignatures.CONTENT if form == "detached" else None
+        for given in (octets, *countersignatures.spellings_of(octets, random)):
+            judge(tally, asker, f"{name}, {form}", given, detached)
+
+
+def any_time(random):
+    """Returns a time in DER, or a text that is nearly one, and whether it is one."""
+    year, month, day = random.choice((0, 1, 1970, random.randrange(10000))), random.randint(1, 13), random.randint(1, 28)
+    second, hour = random.choice((0, 59, 59, 60)), random.randrange(25)
+    fraction = "".join(random.choices("0123456789", k=random.choice((0, 0, 1, 6, 7, 20))))
+    text = f"{year:04}{month:02}{day:02}{hour:02}{random.randrange(60):02}{second:02}{f'.{fraction}' if fraction else ''}Z"
+    return text, month <= 12 and hour <= 23 and second <= 59 and not fraction.endswith("0")
+
+
+def any_tst_info(random):
+    """Returns a TSTInfo in DER, or octets that are nearly one, and whether it is one."""
+    time, is_time = any_time(random)
+    numbers = {0x02: random.choice((0, 1, 1 << 70)), 0x80: random.choice((1, 999, 0, 1000)), 0x81: random.choice((1, 500, 999))}
+    there = {identifier: number for identifier, number in numbers.items() if random.random() < 0.5}
+    parts = [Primitive(it, number.to_bytes(number.bit_length() // 8 + 1, "big")) for it, number in there.items()]
+    accuracy, is_accuracy = (Sequence(*parts), there.get(0x80, 1) in range(1, 1000)) if random.random() < 0.5 else (None, True)
+    imprint = Sequence(generated_messages.algorithm(random), OctetString(generated_messages.octets(random, 64)))
+    integer, policy = generated_messages.integer, generated_messages.identifier_of_an_object(random)
+    fields = [integer(random), policy, imprint, integer(random), Primitive(0x18, time.encode()), accuracy]
+    fields += [TrueOrAbsent(random.random() < 0.5), sometimes(random, lambda: integer(random))]
+    fields += [sometimes(random, lambda: any_opaque(random, it)) for it in (0xA0, 0xA1)]
+    return Sequence(*fields).der(), is_time and is_accuracy
+
+
+def any_token(random):
+    """Returns a token, its detached content or None, and what its signers cover, which is not looked at."""
+    message, _, covers = generated_messages.signed_message(random)
+    encapsulated = message.parts[1].parts[0].parts[2]
+    content, _ = any_tst_info(random)
+    encapsulated.parts = [Primitive(0x06, ID_CT_TST_INFO[2:]), Sequence(OctetString(content), identifier=0xA0)]
+    return message, None, covers
+
+
+def spelled_by_name(part, random):
+    """Spells a part that is tallied, without comparing it with its DER, which would take as long as all else."""
+    generated_messages.spelled[part.name] += 1
+    return part.part.ber(random)
+
+
+def test_generated(asker, tally, monkeypatch):
+    monkeypatch.setattr(generated_messages, "LONG_CONTENT", 5_000)  # longer ones take their time, and have no other fields
+    monkeypatch.setattr(generated_messages.Tallied, "ber", spelled_by_name)
+    monkeypatch.setattr(generated_messages.Countersignatures, "any_order", generated_messages.SetOf.any_order)
+    seen.clear()
+    random = generated_messages.beginning()
+    makers = [generated_messages.signed_message] * 2 + [generated_messages.request, generated_messages.response, any_token]
+    for index in range(MESSAGES // SPELLINGS):
+        message, detached, _ = random.choice(makers)(random)
+        spellings = [message.ber(random) for _ in range(SPELLINGS - 1)]
+        for given in (*spellings, message.der()):
+            judge(tally, asker, f"message {index}", given, detached)
+        judge(tally, asker, f"message {index}, damaged", generated_messages.damaged(random, spellings[0]))
+        content, is_right = any_tst_info(random)
+        complaint, _ = judge_tst_info(asker, content, is_right)
+        tally.count(f"TSTInfo {index}", complaint and f"{complaint}, of {content.hex()}")
+    for name, kind in KINDS.items():
+        tally.count(f"{name} occurs", "" if seen[kind] else "in no message")
+    for name, others in OPTIONAL.items():
+        for other in others:
+            tally.count(f"{other} is absent", "" if seen[name, other] else f"in no message with {name}")
+
+
+def test_names(asker, tally):
+    """The package has the names that `show` has, for each object identifier that it knows and for others."""
+    oids = [*sys.modules["cms_canon._names"].NAMES, "2.999.3", "1.2.840.113549.1.9.16.2.14"]
+    algorithms = b"".join(written(0x30, oid(it)) for it in oids)
+    message = message_of(b"\x02\x01\x03", written(0x31, algorithms), written(0x30, ID_CT_TST_INFO), b"\x31\x00")
+    lines = [line.split() for line in asker.package.show(message).splitlines() if line.startswith("  ")]
+    wanted = [(oid, None if name == "-" else name) for oid, name, _ in lines]
+    came = [(it.oid, it.name) for it in asker.package.read(message).digest_algorithms]
+    tally.count("names", differ("names", wanted, came) or differ("named", len(oids) - 2, sum(name is not None for _, name in came)))
