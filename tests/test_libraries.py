@@ -5,8 +5,8 @@ countersignatures: tests/c/answer.c by the header and the static library, bindin
 network, into a folder of its own, and bindings/java/test/Answer.java by JNA. Then come the checks that each caller has of its own: of C,
 tests/c/calls.c, also under valgrind and the address sanitizer, all requests and some about deep messages on a stack as small as the header
 allows, and the names in the libraries; of Python, bindings/python/tests/test_calls.py, and the sample of bindings/python/README.md, if the package
-`cryptography` is installed; of Java, Calls, Messages, Streams, CallCounts and Growths in bindings/java/test/cmscanon: Streams with
-little memory, and the last two with libraries in front that count calls and refuse memory.
+`cryptography` is installed; of Java, by JUnit, the tests in bindings/java/test/cmscanon: StreamsTest with little memory, and CallCountsTest and
+GrowthsTest with libraries in front that count calls and refuse memory.
 """
 
 import itertools
@@ -25,6 +25,9 @@ from programs import RELEASE, TOP, built_refusing, shortened
 from tally import fail_if
 
 JNA = "/usr/share/java/jna.jar"
+JUNIT = "/usr/share/java/junit-platform-console-standalone.jar"
+JARS = ":".join([JNA, *(f"/usr/share/java/{it}.jar" for it in (
+    "junit-jupiter-api", "junit-jupiter-params", "junit-platform-commons", "apiguardian-api", "opentest4j"))])
 C_SOURCES, PYTHON_TESTS = TOP / "tests" / "c", TOP / "bindings" / "python" / "tests"
 ARCHIVE = RELEASE / "libcms_canon.a"
 WARNINGS = ["-std=c11", "-Wall", "-Wextra", "-Werror", "-g", "-I", str(RELEASE)]
@@ -79,9 +82,29 @@ def asked_of_c():
     return asked_of(requests(), "pieces", "lines", "jobs")
 
 
+def extents():
+    """Gives requests for the extent of each message that is converted, of which the octets come one by one, and of one that is cut."""
+    for name, asked, wanted in asked_of(requests()):
+        call, limit, octets = asked.split(" ")[:3]
+        if call == "convert" and wanted.startswith("0 ") and len(octets) <= 2 * SHORT:
+            length = len(octets) // 2
+            yield f"extent, {name}", f"extent {limit} {octets}", f"1 {length} {length}"
+            yield f"extent, {name}, and octets after it", f"extent {limit} {octets}{octets}", f"1 {length} {length}"
+
+
 @needs("gcc")
 def test_c(c, tally):
-    compare(tally, "C", asked_of_c(), [c / "answer"])
+    compare(tally, "C", [*asked_of_c(), *extents()], [c / "answer"])
+
+
+@needs("gcc")
+def test_extents_of_messages_that_are_cut(c, tally):
+    """Octets are missing as long as the message is not whole, and none are read past its end."""
+    asked = [(name, words[: -2 * cut]) for name, words, _ in extents() for cut in (1, 2, 3) if "after it" not in name]
+    lines = run([c / "answer"], "".join(f"{words}\n" for _, words in asked)).splitlines()
+    for (name, words), came in zip(asked, lines, strict=True):
+        length = len(words.split(" ")[2]) // 2
+        tally.count(name, "" if came.startswith(f"0 {length} ") else f"wanted 0 after {length} octets, came {came}")
 
 
 @needs("gcc")
@@ -209,15 +232,25 @@ print(json.dumps([test.id() for case in unittest.defaultTestLoader.loadTestsFrom
 def java(tmp_path_factory):
     """A folder with the classes."""
     folder = tmp_path_factory.mktemp("java")
-    run(["javac", "-Xlint:all", "-Werror", "-d", folder, "-cp", JNA, *(TOP / "bindings" / "java").glob("**/*.java")])
+    run(["javac", "-Xlint:all", "-Werror", "-d", folder, "-cp", JARS, *(TOP / "bindings" / "java").glob("**/*.java")])
     return folder
 
 
 def java_words(classes, library, *options):
-    return ["java", *options, f"-Djna.library.path={library}", "-cp", f"{classes}:{JNA}"]
+    return ["java", *options, f"-Djna.library.path={library}", "-cp", f"{classes}:{JARS}:{JUNIT}"]
 
 
-needs_java = needs("java", "javac", JNA)
+def judge_class(tally, name, words, **how):
+    """Has JUnit run the tests of a class, and counts them."""
+    junit = ["org.junit.platform.console.ConsoleLauncher", "--disable-banner", "--disable-ansi-colors", "--details=summary", "--fail-if-no-tests"]
+    ended = subprocess.run([*words, *junit, "--select-class", f"cmscanon.{name}"], capture_output=True, text=True, timeout=SECONDS, **how)
+    counts = {it: int(number) for number, it in re.findall(r"\[ *(\d+) tests (\w+) *\]", ended.stdout)}
+    if ended.returncode != 0 or not counts.get("found") or counts["successful"] != counts["found"]:
+        return tally.count(name, f"status {ended.returncode}, {counts}: {(ended.stdout + ended.stderr)[-3000:]}")
+    tally.add(counts["successful"])
+
+
+needs_java = needs("java", "javac", JNA, JUNIT)
 
 
 @needs_java
@@ -231,9 +264,9 @@ def test_java(java, tally):
 
 
 @needs_java
-@pytest.mark.parametrize("name, options", [("Calls", []), ("Messages", []), ("Streams", ["-Xmx64m"])])
+@pytest.mark.parametrize("name, options", [("CallsTest", []), ("MessagesTest", []), ("StreamsTest", ["-Xmx64m"])])
 def test_class_of_java(java, tally, name, options):
-    add_counts(tally, f"Java {name}", run([*java_words(java, RELEASE, *options), f"cmscanon.{name}"]))
+    judge_class(tally, name, java_words(java, RELEASE, *options))
 
 
 @needs_java
@@ -245,5 +278,5 @@ def test_java_with_a_library_in_front(java, tally, tmp_path):
     linked = ["-Wl,--no-as-needed", real, "-Wl,-rpath,$ORIGIN"]
     counting = TOP / "bindings" / "java" / "test" / "counting.c"
     run(["gcc", "-shared", "-fPIC", *WARNINGS, counting, *linked, "-o", tmp_path / "libcms_canon.so"])
-    add_counts(tally, "Java CallCounts", run([*java_words(java, tmp_path), "cmscanon.CallCounts"]))
-    add_counts(tally, "Java Growths", run([*java_words(java, RELEASE), "cmscanon.Growths"], env=refusing_growth(1)))
+    judge_class(tally, "CallCountsTest", java_words(java, tmp_path))
+    judge_class(tally, "GrowthsTest", java_words(java, RELEASE), env=refusing_growth(1))

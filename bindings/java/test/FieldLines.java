@@ -19,7 +19,7 @@ import java.util.List;
 import java.util.stream.Collectors;
 import java.util.stream.IntStream;
 
-/** The fields of a message, a line for each, as tests/field_lines.py has them. */
+/** The fields of a message, a line for each, as tests/support/field_lines.py has them. */
 final class FieldLines {
     private static final HexFormat HEX = HexFormat.of();
     private static final String TST_INFO = "1.2.840.113549.1.9.16.1.4"; // the content type of a time-stamp token

@@ -3,7 +3,7 @@
 //! A write for each message of 1.5 kB would cost as much as its conversion, so the DER of short
 //! messages is written together, once it is 64 KiB. A peer may wait for it, so all of it is written
 //! before the reader is asked for octets: unless the whole next message is at hand. No contract sees
-//! when a reader is asked; `tests/dialogue.py` talks over pipes and sockets.
+//! when a reader is asked; `tests/test_dialogue.py` talks over pipes and sockets.
 //!
 //! What is in hand is DER that is still to be written, and the length of each message in it: so `done`
 //! and `Write { written }` are exact after a failed write. If the next message cannot be read, the DER
