@@ -286,7 +286,7 @@ def complaints_of_prototypes():
     """Yields each call whose prototype has other arguments than the code, or no comment, and each whose version the changelog does not name."""
     header, history = (TOP / HEADER).read_text(), (TOP / "CHANGELOG.md").read_text()
     code = "".join(it.read_text() for it in (TOP / "crates" / "cms_c" / "src").glob("*.rt"))
-    wanted = {name: [*arguments_in_c(words)] for name, words in re.findall(r'extern "C" fn (\w+)\((.*?)\n\)', code, re.S)}
+    wanted = {name: [*arguments_in_c(words)] for name, words in re.findall(r'extern "C" fn (\w+)\(([^()]*)\)', code)}
     for call in calls():
         came = [(kind, re.sub("_(length|count|room)$", "", name) if kind == "size_t" else name) for kind, name in call.arguments]
         if came != wanted.get(call.name):

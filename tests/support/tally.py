@@ -55,7 +55,10 @@ def count(name, complaint=""):
 
 def fail_if(complaint):
     """Fails the test that runs, which is one check, if there is a complaint."""
-    assert not complaint, complaint
+    if complaint:
+        import pytest  # scripts that are no tests of pytest use this module without it
+
+        pytest.fail(complaint, pytrace=False)
 
 
 def ended(tally):

@@ -147,7 +147,7 @@ def _is_missing_octets(octets: bytearray, limit: int, extent: _calls.Extent) -> 
 
 def _elements(ders: bytes) -> Iterator[bytes]:
     """The elements in DER, one after another."""
-    at, address = 0, ctypes.cast(ders, ctypes.c_void_p).value or 0
+    at, address = 0, ctypes.cast(ctypes.c_char_p(ders), ctypes.c_void_p).value or 0
     while at < len(ders):
         extent = _calls.Extent()
         _calls.library.cms_canon_extent(ctypes.c_char_p(address + at), len(ders) - at, len(ders), extent)
