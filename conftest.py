@@ -19,17 +19,21 @@ COUNTED = "checks"
 
 @pytest.fixture
 def tally():
-    Tally.running = Tally()
-    yield Tally.running
+    tally = Tally.running = Tally()
+    yield tally
     Tally.running = None
+    late = tally.failures[tally.judged :]
+    if late:
+        pytest.fail("\n".join(late), pytrace=False)
 
 
 @pytest.hookimpl(hookwrapper=True)
 def pytest_pyfunc_call(pyfuncitem):
     outcome = yield
-    tally = pyfuncitem.funcargs.get("tally")
+    tally = Tally.running
     if tally is None:
         return
+    tally.judged = len(tally.failures)
     pyfuncitem.user_properties.append((COUNTED, (tally.passed, len(tally.failures), tally.skips)))
     if outcome.excinfo:
         print(*tally.failures, sep="\n")
@@ -38,6 +42,10 @@ def pytest_pyfunc_call(pyfuncitem):
         pytest.fail("\n".join(tally.failures), pytrace=False)
     if not tally.passed:
         pytest.skip("; ".join(tally.skips)) if tally.skips else pytest.fail("nothing was counted", pytrace=False)
+
+
+def why_skipped(report):
+    return report.longrepr[2].removeprefix("Skipped: ") if isinstance(report.longrepr, tuple) else report.longrepr
 
 
 class Counts:
@@ -55,7 +63,7 @@ class Counts:
         passed, failed, skipped = counted or (report.passed and report.when == "call", 0, [])
         self.passed += passed
         self.failed += max(failed, report.failed)
-        self.skipped += skipped or ([f"{report.nodeid}: {report.longrepr[2].removeprefix('Skipped: ')}"] if report.skipped else [])
+        self.skipped += skipped or ([f"{report.nodeid}: {why_skipped(report)}"] if report.skipped else [])
 
     def pytest_unconfigure(self):
         for line in self.skipped:

@@ -90,9 +90,10 @@ def test_released(built, tally):
     if tools:
         tally.skip("octets", "dist/ is made with " + "; ".join(f"{values.get(it)}, and this is {made[it]}" for it in tools))
         words = ["-m", "pytest", "-q", "tests/test_vectors.py", f"--program={RELEASE / 'cms-canon'}", f"--built={built}"]
-        last = run(sys.executable, *words, cwd=TOP).stdout.decode().splitlines()[-1:]
-        counted = re.fullmatch(r"(\d+) passed, 0 failed.*", last[0] if last else "")
-        count("vectors on the released program", "" if counted else f"ended in {last}")
+        ended = run(sys.executable, *words, cwd=TOP)
+        last = ended.stdout.decode().splitlines()[-1:]
+        counted = re.fullmatch(r"[1-9]\d* passed, 0 failed.*", last[0] if last else "")
+        count("vectors on the released program", "" if counted and ended.returncode == 0 else f"status {ended.returncode}, ended in {last}")
     count("files", "" if {*digests} == {*made_digests} else f"the files of dist/ are not those of a release: {AGAIN}")
     for name in sorted({*digests} & {*made_digests}):
         same = (RELEASE / name).read_bytes() == (CANDIDATE / name).read_bytes()

@@ -13,7 +13,7 @@ tried by its `cryptography` too.
 
 import datetime
 import functools
-import importlib
+import importlib.util
 import itertools
 import re
 import sys
@@ -73,15 +73,21 @@ class Asker:
                 self.count(f"{name}, {what}", wanted, altered, *given)
 
 
+def skip_without_cryptography():
+    """A package that is there and cannot be imported is a failure."""
+    if not importlib.util.find_spec("cryptography"):
+        pytest.skip("cryptography is not installed")
+
+
 @pytest.fixture(scope="module")
 def asker(package):
-    pytest.importorskip("cryptography")
+    skip_without_cryptography()
     return Asker(package)
 
 
 @pytest.fixture(scope="module")
 def keys():
-    pytest.importorskip("cryptography")
+    skip_without_cryptography()
     return Keys()
 
 

@@ -901,6 +901,10 @@ KINDS = {  # what makes each kind of container, what reads it, and a share of ho
 }
 
 
+def test_kinds(make):
+    count_same("kinds of containers", {*KINDS}, {*zip_kinds(make), *tar_kinds(make)})
+
+
 @pytest.mark.parametrize("name", KINDS)
 def test_kind(archive, home, make, tally, name):
     """No reader shows other octets than those that are said to fit."""

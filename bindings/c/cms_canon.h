@@ -126,9 +126,9 @@ void cms_canon_convert_many(const uint8_t *input, size_t input_length, uint64_t 
 
 /* The values of `reach`. */
 enum cms_canon_reach {
-    CMS_CANON_MORE = 0,          /* octets are missing: they are a proper prefix of an element */
-    CMS_CANON_WHOLE = 1,         /* the element is whole: its length is `end` */
-    CMS_CANON_NOTHING = 2,       /* no element of at most `limit` octets begins so: cms_canon_convert says why */
+    CMS_CANON_MORE = 0,          /* octets are missing: they are a proper prefix of an element, and fewer than `limit` */
+    CMS_CANON_WHOLE = 1,         /* the element is whole: its length is `end`, at most `limit` */
+    CMS_CANON_NOTHING = 2,       /* after `end` octets no element begins that ends within `limit`: cms_canon_convert says why */
     CMS_CANON_REACH_UNKNOWN = 3  /* malloc failed: call again with this extent */
 };
 
@@ -144,7 +144,7 @@ struct cms_canon_extent {
  * learns when a whole message is there, and has it converted once. In the first call all of `extent` is 0. In a later one it is as the
  * call before left it, and the input is that of the call before and the octets that have come since: the call goes on at the header
  * where the one before stopped. All calls for a message take time in proportion to its headers and to the number of calls. If
- * `extent` was changed, or the call before said otherwise than CMS_CANON_MORE, the extent says nothing.
+ * `extent` was changed, or the call before said CMS_CANON_WHOLE or CMS_CANON_NOTHING, the extent says nothing.
  *
  *     struct cms_canon_extent extent = {0};
  *     do

@@ -451,6 +451,10 @@ static void check_extents(void)
         cms_canon_extent(message, length, CMS_CANON_LIMIT, &from_nothing);
         check("octets are missing", extent.reach == CMS_CANON_MORE && extent.end <= length);
         check("the same from the first octet", is_extent(&from_nothing, extent.end, extent.unended, extent.reach));
+        if (length == 2)
+            check("a header is passed", is_extent(&extent, 2, 1, CMS_CANON_MORE));
+        if (length == 13)
+            check("and the element after it", is_extent(&extent, 13, 1, CMS_CANON_MORE));
     }
     cms_canon_extent(message, sizeof message, CMS_CANON_LIMIT, &extent);
     check("a whole message", is_extent(&extent, sizeof message, 0, CMS_CANON_WHOLE));
@@ -465,6 +469,13 @@ static void check_extents(void)
     extent = (struct cms_canon_extent){0};
     cms_canon_extent(message, sizeof message, sizeof message - 1, &extent);
     check("an end of contents past the limit", extent.reach == CMS_CANON_NOTHING && extent.unended == 1);
+    for (size_t limit = 0; limit < sizeof message; limit++) {
+        extent = from_nothing = (struct cms_canon_extent){0};
+        cms_canon_extent(message, sizeof message, limit, &extent);
+        for (size_t length = 0; length <= sizeof message && from_nothing.reach == CMS_CANON_MORE; length++)
+            cms_canon_extent(message, length, limit, &from_nothing);
+        check("a limit that is passed", extent.reach == CMS_CANON_NOTHING && from_nothing.reach == CMS_CANON_NOTHING);
+    }
     extent = (struct cms_canon_extent){0};
     cms_canon_extent(long_element, sizeof long_element, CMS_CANON_LIMIT, &extent);
     check("a length past the limit", is_extent(&extent, 0, 0, CMS_CANON_NOTHING));

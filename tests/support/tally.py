@@ -18,7 +18,7 @@ class Tally:
     running = None  # the tally of the test that runs
 
     def __init__(self):
-        self.passed = 0
+        self.passed = self.judged = 0  # checks that passed, and failures for which the test has failed
         self.failures, self.skips = [], []
 
     def count(self, name, complaint=""):

@@ -151,8 +151,9 @@ def _elements(ders: bytes) -> Iterator[bytes]:
     while at < len(ders):
         extent = _calls.Extent()
         _calls.library.cms_canon_extent(ctypes.c_char_p(address + at), len(ders) - at, len(ders), extent)
-        if extent.reach != _calls.WHOLE:
+        if extent.reach == _calls.UNKNOWN:
             raise MemoryError("out of memory")
+        assert extent.reach == _calls.WHOLE
         yield ders[at : at + extent.end]
         at += extent.end
 

@@ -241,6 +241,10 @@ class Many(unittest.TestCase):
             return time.perf_counter() - start
 
         self.assertLess(seconds(1 << 12), 20 * seconds(len(octets)) + 1)
+        inner = element(0x04, b"a") * 200_000
+        signed_data = b"\x02\x01\x01\x31\x00\x30\x80" + bytes.fromhex("06092a864886f70d010701") + b"\xa0\x80\x24\x80" + inner
+        octets = head + signed_data + bytes(6) + b"\x31\x00" + bytes(6)
+        self.assertLess(seconds(1 << 9), 20 * seconds(len(octets)) + 1)
 
 
 class Refusals(unittest.TestCase):

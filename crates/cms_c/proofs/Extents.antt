@@ -9,7 +9,7 @@ use Rattle.cms_tlv.specs.declared.fault.Fault.{Fault}
 use Rattle.cms_tlv.specs.declared.fault.Fault.TheVariants as faults
 use Rattle.cms_tlv.specs.declared.fault.Reason.TheVariants as reasons
 use Rattle.cms_tlv.specs.Clauses.{Ends, Faults, Found, IsCut, OctetsTaken, Refuses, SpellsHeader, frame_by}
-use Rattle.cms_tlv.specs.Headers.{IsConstructed, IsIdentifier, low, high, IsLength}
+use Rattle.cms_tlv.specs.Headers.{IsConstructed, IsIdentifier, low, high, IsLength, short, long}
 use Rattle.cms_tlv.specs.Frames.{Frame, Frames, definite, indefinite, none, more, IsEnd}
 use Rattle.cms_tlv.specs.State.{State}
 use Rattle.cms_c.specs.Extents.{BeginsNoFrame, HasFrame, IsOpenedAt, IsOpened, IsPartOf, IsReachBy, IsReached, BeginsNeither, Reaches, into}
@@ -171,27 +171,29 @@ module _ (octets : List ℕ) (limit : ℕ) (new : State) (header : Header) (n : 
       (cut, omega (arith, less, h.fits, l, h.count))
 
   -- all of the contents
-  pub element_whole : n ≤ length octets - length new.done → HasFrame octets (length new.done + n)
+  pub element_whole : n ≤ length octets - length new.done → HasFrame octets (length new.done + n) × (length new.done + n ≤ limit)
   element_whole fits =
       let h = has_header in
       let l = ap length h.parts ∙ length-append h.identifier (h.sizes ++ h.rest) ∙ ap (λ m. length h.identifier + m) (length-append h.sizes h.rest) in
-      let k : length (take n h.rest) ≡ n = length-take-le n h.rest (omega (arith, fits, l, h.count)) in
-      record {
-        frame = h.identifier ++ (h.sizes ++ take n h.rest);
-        rest = drop n h.rest;
-        parts = h.parts ∙ ap (λ t. h.identifier ++ (h.sizes ++ t)) (sym (take-append-drop n h.rest))
-            ∙ sym (assoc_header h.identifier h.sizes (take n h.rest) (drop n h.rest));
-        count = length-append h.identifier (h.sizes ++ take n h.rest) ∙ ap (λ m. length h.identifier + m) (length-append h.sizes (take n h.rest))
-            ∙ omega (arith, k, h.count);
-        is = definite (take n h.rest) h.is_identifier (subst (IsLength h.sizes) (sym k) h.is_length);
-      }
+      let k : length (take n h.rest) ≡ n = length-take-le n h.rest (omega (arith, fits, l, h.count)) in (
+        record {
+          frame = h.identifier ++ (h.sizes ++ take n h.rest);
+          rest = drop n h.rest;
+          parts = h.parts ∙ ap (λ t. h.identifier ++ (h.sizes ++ t)) (sym (take-append-drop n h.rest))
+              ∙ sym (assoc_header h.identifier h.sizes (take n h.rest) (drop n h.rest));
+          count = length-append h.identifier (h.sizes ++ take n h.rest) ∙ ap (λ m. length h.identifier + m) (length-append h.sizes (take n h.rest))
+              ∙ omega (arith, k, h.count);
+          is = definite (take n h.rest) h.is_identifier (subst (IsLength h.sizes) (sym k) h.is_length);
+        },
+        h.fits,
+      )
 
 module _ (octets : List ℕ) (limit : ℕ) (bd : Bound) (old new : State) (header : Header) (n : ℕ) (e : bd ≡ top) (s : old ≡ start octets limit)
     (found : Found (SpellsHeader bd new.limit (length new.done)) old new header) (is : header.len ≡ Some n) where
   pub contents_missing_of : length octets - length new.done < n → IsCut octets × (length octets < limit)
   contents_missing_of = contents_missing octets limit new header n (rw (e, s) at found) is
 
-  pub element_whole_of : n ≤ length octets - length new.done → HasFrame octets (length new.done + n)
+  pub element_whole_of : n ≤ length octets - length new.done → HasFrame octets (length new.done + n) × (length new.done + n ≤ limit)
   element_whole_of = element_whole octets limit new header n (rw (e, s) at found) is
 
 -- What is passed after what was passed before.
@@ -213,11 +215,12 @@ rest_of octets left end n q h = q ∙ ap (λ m. drop m octets) (sym h.count) ∙
 module _ (octets left : List ℕ) (end n : ℕ) (at : left ≡ drop end octets) where
   pub stops : (limit : ℕ) (reach : Reach) → (0 < n → IsEnd left → ⊥) → BeginsNeither left (limit - end) reach
       → IsOpenedAt octets end n → Reaches octets limit end n reach
-  stops limit reaches.More k h b = (
-    rw b.parts (cut_inside n b.rest b.opened (rw (rest_of octets left end n at b) at k) (rw (rest_of octets left end n at b) at h.0)),
-    omega (arith, h.1, ap length (rest_of octets left end n at b), ap length b.parts, length-append b.passed b.rest, b.count),
-    b,
-  )
+  stops limit reaches.More k h b = record {
+    cut = rw b.parts (cut_inside n b.rest b.opened (rw (rest_of octets left end n at b) at k) (rw (rest_of octets left end n at b) at h.0));
+    fewer = omega (arith, h.1, ap length (rest_of octets left end n at b), ap length b.parts, length-append b.passed b.rest, b.count);
+    begun = b;
+    last = rw (rest_of octets left end n at b) at h.0;
+  }
   stops limit reaches.Whole k h b = absurd h
   stops limit reaches.Nothing k h b = record { begun = b; nothing = rw (rest_of octets left end n at b) at h }
   stops limit reaches.Unknown k h b = b
@@ -241,48 +244,64 @@ module _ (octets left : List ℕ) (end n : ℕ) (at : left ≡ drop end octets) 
     is = o;
   }
 
-  pub past_header : (k : ℕ) → IsPartOf left (parts.Header k) → IsOpenedAt octets end n → IsOpenedAt octets (end + k) (n + 1)
-  past_header k (t, i, r, p, q, is, con) b =
+  pub past_header : (room k : ℕ) → IsPartOf left room (parts.Header k) → IsOpenedAt octets end n → IsOpenedAt octets (end + k) (n + 1)
+  past_header room k (t, i, r, p, q, is, con) b =
       let e : suc n ≡ n + 1 = omega arith in
       subst (IsOpenedAt octets (end + k)) e (begun_with b (i ++ (0x80 ∷ [])) r (suc n) k (sym (rest_of octets left end n at b) ∙ p) q (opened_into b.opened is con))
-
-pub past_element : (octets left : List ℕ) (end n k : ℕ) → left ≡ drop end octets → (0 < n → IsEnd left → ⊥) → IsPartOf left (parts.Element k)
-    → IsOpenedAt octets end n → IsReached octets (end + k) n
-past_element octets left end zero k at e h b =
-    inr (refl, frame_with octets left end zero at b h.frame h.rest k (sym (rest_of octets left end zero at b) ∙ h.parts) h.count (rw (opened_none b.opened) h.is))
-past_element octets left end (suc n) k at e h b =
-    inl (begun_with octets left end (suc n) at b h.frame h.rest (suc n) k (sym (rest_of octets left end (suc n) at b) ∙ h.parts) h.count
-    (opened_past b.opened h.is (λ z. e (omega arith) (z.0 ++ h.rest, h.parts ∙ ap (λ t. t ++ h.rest) z.1))))
-
-past_end : (octets left : List ℕ) (end n : ℕ) → left ≡ drop end octets → IsEnd left → IsOpenedAt octets end (suc n) → IsReached octets (end + 2) n
-past_end octets left end zero at h b =
-    inr (refl, frame_with octets left end 1 at b (0 ∷ 0 ∷ []) h.0 2 (sym (rest_of octets left end 1 at b) ∙ h.1) refl (ended b.opened))
-past_end octets left end (suc n) at h b =
-    inl (begun_with octets left end (suc (suc n)) at b (0 ∷ 0 ∷ []) h.0 (suc n) 2 (sym (rest_of octets left end (suc (suc n)) at b) ∙ h.1) refl (ended_inside b.opened))
-
-pub past_last : (octets left : List ℕ) (end n : ℕ) → left ≡ drop end octets → 0 < n → IsEnd left → IsOpenedAt octets end n → IsReached octets (end + 2) (n - 1)
-past_last octets left end n at p h b =
-    let e : n ≡ suc (n - 1) = omega (arith, p) in past_end octets left end (n - 1) at h (subst (IsOpenedAt octets end) e b)
 
 some_identifier : {t : ℕ} {i : List ℕ} → IsIdentifier t i → 0 < length i
 some_identifier (low o p) = omega arith
 some_identifier (high o p q r s k) = omega arith
 
--- an element has an octet
-pub some_octets : {f : List ℕ} → Frame f → 0 < length f
-some_octets (definite {i = i} {l = l} c p q) = omega (arith, some_identifier p, length-append i (l ++ c))
-some_octets (indefinite {i = i} {c = c} p k cs) = omega (arith, some_identifier p, length-append i (0x80 ∷ (c ++ 0 ∷ 0 ∷ [])))
+some_length : {l : List ℕ} {n : ℕ} → IsLength l n → 0 < length l
+some_length (short p) = omega arith
+some_length (long p q) = omega arith
+
+-- an element has two octets or more
+two_octets : {f : List ℕ} → Frame f → 2 ≤ length f
+two_octets (definite {i = i} {l = l} c p q) = omega (arith, some_identifier p, some_length q, length-append i (l ++ c), length-append l c)
+two_octets (indefinite {i = i} {c = c} p k cs) = omega (arith, some_identifier p, length-append i (0x80 ∷ (c ++ 0 ∷ 0 ∷ [])))
 
 pub element_count : (octets : List ℕ) (k : ℕ) → HasFrame octets k → (0 < k) × (k ≤ length octets)
 element_count octets k h =
-    (omega (arith, some_octets h.is, h.count), omega (arith, h.count, ap length h.parts, length-append h.frame h.rest))
+    (omega (arith, two_octets h.is, h.count), omega (arith, h.count, ap length h.parts, length-append h.frame h.rest))
+
+pub past_element : (octets left : List ℕ) (end n limit k : ℕ) → left ≡ drop end octets → (0 < n → IsEnd left → ⊥)
+    → IsPartOf left (limit - end) (parts.Element k) → IsOpenedAt octets end n → IsReached octets limit (end + k) n
+past_element octets left end zero limit k at e (h, fits) b = inr (
+  refl,
+  frame_with octets left end zero at b h.frame h.rest k (sym (rest_of octets left end zero at b) ∙ h.parts) h.count (rw (opened_none b.opened) h.is),
+  omega (arith, fits, element_count left k h),
+)
+past_element octets left end (suc n) limit k at e (h, fits) b =
+    inl (begun_with octets left end (suc n) at b h.frame h.rest (suc n) k (sym (rest_of octets left end (suc n) at b) ∙ h.parts) h.count
+    (opened_past b.opened h.is (λ z. e (omega arith) (z.0 ++ h.rest, h.parts ∙ ap (λ t. t ++ h.rest) z.1))))
+
+past_end : (octets left : List ℕ) (end n limit : ℕ) → left ≡ drop end octets → IsEnd left → end + 2 ≤ limit → IsOpenedAt octets end (suc n)
+    → IsReached octets limit (end + 2) n
+past_end octets left end zero limit at h fits b =
+    inr (refl, frame_with octets left end 1 at b (0 ∷ 0 ∷ []) h.0 2 (sym (rest_of octets left end 1 at b) ∙ h.1) refl (ended b.opened), fits)
+past_end octets left end (suc n) limit at h fits b =
+    inl (begun_with octets left end (suc (suc n)) at b (0 ∷ 0 ∷ []) h.0 (suc n) 2 (sym (rest_of octets left end (suc (suc n)) at b) ∙ h.1) refl (ended_inside b.opened))
+
+pub past_last : (octets left : List ℕ) (end n limit : ℕ) → left ≡ drop end octets → 0 < n → IsEnd left → end + 2 ≤ limit → IsOpenedAt octets end n
+    → IsReached octets limit (end + 2) (n - 1)
+past_last octets left end n limit at p h fits b =
+    let e : n ≡ suc (n - 1) = omega (arith, p) in past_end octets left end (n - 1) limit at h fits (subst (IsOpenedAt octets end) e b)
+
+-- where two octets pass the limit, nothing begins
+pub no_room : (octets : List ℕ) (end n limit : ℕ) → limit < end + 2 → IsOpenedAt octets end n → Reaches octets limit end n reaches.Nothing
+no_room octets end n limit less b = record {
+  begun = b;
+  nothing = λ x f y room e is. let two : 2 ≤ length f = two_octets is in omega (arith, room, two, less);
+}
 
 -- the end of the way
-pub all_reached : (octets : List ℕ) (end : ℕ) → end ≢ 0 → IsReached octets end 0 → HasFrame octets end
-all_reached octets end e (inl b) = absurd (e (sym b.count ∙ ap length (opened_none b.opened)))
-all_reached octets end e (inr h) = h.1
+pub all_reached : (octets : List ℕ) (limit end : ℕ) → end ≢ 0 → IsReached octets limit end 0 → HasFrame octets end × (end ≤ limit)
+all_reached octets limit end e (inl b) = absurd (e (sym b.count ∙ ap length (opened_none b.opened)))
+all_reached octets limit end e (inr h) = (h.1, h.2)
 
-pub still_begun : (octets : List ℕ) (end n : ℕ) → (end ≡ 0) ⊎ (0 < n) → IsReached octets end n → IsOpenedAt octets end n
-still_begun octets end n at (inl b) = b
-still_begun octets end n (inl z) (inr h) = let s = some_octets h.1.is in let no : ⊥ = omega (arith, z, s, h.1.count) in absurd no
-still_begun octets end n (inr p) (inr h) = let no : ⊥ = omega (arith, p, h.0) in absurd no
+pub still_begun : (octets : List ℕ) (limit end n : ℕ) → (end ≡ 0) ⊎ (0 < n) → IsReached octets limit end n → IsOpenedAt octets end n
+still_begun octets limit end n at (inl b) = b
+still_begun octets limit end n (inl z) (inr h) = let s = two_octets h.1.is in let no : ⊥ = omega (arith, z, s, h.1.count) in absurd no
+still_begun octets limit end n (inr p) (inr h) = let no : ⊥ = omega (arith, p, h.0) in absurd no

@@ -46,15 +46,22 @@ pub record HasNoFrame (octets : List ℕ) (limit end n : ℕ) : Type 0 where
   pub begun : IsOpenedAt octets end n
   pub nothing : BeginsNoFrame (limit - end) begun.rest
 
---- `Reaches octets limit end n reach`: `More`: the octets are a proper prefix of a frame (`IsCut`),
----   fewer than the limit, and the first `end` are `IsOpened n`
---- | `Whole`: the first `end` octets are a frame
+--- `LacksOctets octets limit end n`: the octets are a proper prefix of a frame (`IsCut`), and fewer
+---   than the limit
+--- | the first `end` are `IsOpened n`, and those after them are a proper prefix of a frame too
+pub record LacksOctets (octets : List ℕ) (limit end n : ℕ) : Type 0 where
+  pub cut : IsCut octets
+  pub fewer : length octets < limit
+  pub begun : IsOpenedAt octets end n
+  pub last : IsCut begun.rest
+
+--- `Reaches octets limit end n reach`: `More`: octets are missing (`LacksOctets`)
+--- | `Whole`: the first `end` octets are a frame, within the limit
 --- | `Nothing`: no frame begins after `end` octets (`HasNoFrame`)
 --- | `Unknown`: memory ran out after `end` octets
 abbrev pub Reaches : List ℕ → ℕ → ℕ → ℕ → Reach → Type 0
-Reaches octets limit end n reaches.More =
-    IsCut octets × (length octets < limit) × IsOpenedAt octets end n
-Reaches octets limit end n reaches.Whole = HasFrame octets end
+Reaches octets limit end n reaches.More = LacksOctets octets limit end n
+Reaches octets limit end n reaches.Whole = HasFrame octets end × (end ≤ limit)
 Reaches octets limit end n reaches.Nothing = HasNoFrame octets limit end n
 Reaches octets limit end n reaches.Unknown = IsOpenedAt octets end n
 
@@ -73,15 +80,16 @@ IsExtent octets limit e =
     × Reaches octets limit e.end e.unended reach
 
 -- a frame was passed, or the headers that are open
-abbrev pub IsReached : List ℕ → ℕ → ℕ → Type 0
-IsReached octets end n = IsOpenedAt octets end n ⊎ ((n ≡ 0) × HasFrame octets end)
+abbrev pub IsReached : List ℕ → ℕ → ℕ → ℕ → Type 0
+IsReached octets limit end n =
+    IsOpenedAt octets end n ⊎ ((n ≡ 0) × HasFrame octets end × (end ≤ limit))
 
--- what octets begin with
-abbrev pub IsPartOf : List ℕ → Part → Type 0
-IsPartOf octets (parts.Header n) =
+-- what octets begin with, within the limit
+abbrev pub IsPartOf : List ℕ → ℕ → Part → Type 0
+IsPartOf octets limit (parts.Header n) =
     (t : ℕ) × (i rest : List ℕ) × (octets ≡ (i ++ (0x80 ∷ [])) ++ rest)
     × (length (i ++ (0x80 ∷ [])) ≡ n) × IsIdentifier t i × IsConstructed t
-IsPartOf octets (parts.Element n) = HasFrame octets n
+IsPartOf octets limit (parts.Element n) = HasFrame octets n × (n ≤ limit)
 
 -- why they begin with neither
 abbrev pub BeginsNeither : List ℕ → ℕ → Reach → Type 0

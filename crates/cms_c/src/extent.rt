@@ -118,12 +118,15 @@ fn next(alloc: Global, input: &[u8], limit: u64, before: Extent) -> Result<Exten
         × (e.unended ≤ e.end)) }
     ensures ok { IsOpenedAt input.now before.end before.unended
         → (before.end ≡ 0) ⊎ (0 < before.unended)
-        → IfOk result (λ e. IsReached input.now e.end e.unended) }
+        → IfOk result (λ e. IsReached input.now limit e.end e.unended) }
     ensures err { IsOpenedAt input.now before.end before.unended
         → IfErr result (Reaches input.now limit before.end before.unended) }
 {
     let rest = rest_from(input, before.end);
     if ends_inside(rest, before.unended) {
+        if limit < before.end + 2 {
+            return Err(Reach::Nothing);
+        }
         return Ok(Extent {
             end: before.end + 2,
             unended: before.unended - 1,
@@ -163,7 +166,7 @@ fn ends_inside(octets: &[u8], unended: u64) -> bool
 /// What `octets` begin with, or why it is not known.
 fn part_in(alloc: Global, octets: &[u8], limit: u64) -> Result<Part, Reach>
     requires { limit ≤ 2 ^ 40 }
-    ensures ok { IfOk result (IsPartOf octets.now) }
+    ensures ok { IfOk result (IsPartOf octets.now limit) }
     ensures err { IfErr result (BeginsNeither octets.now limit) }
 {
     let mut source = Source::new(alloc, Slice::new(octets), limit);

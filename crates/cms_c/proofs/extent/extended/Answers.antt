@@ -14,7 +14,7 @@ returns-in-Err c b =
       c.in-Err.reach,
       refl,
       (rw c.in-Err.is at c.next.ensures.err)
-          (still_begun c.args.input.now c.loop-alloc.extent.end c.loop-alloc.extent.unended (c.goes_on.ensures.yes c.loop-alloc-test.true)
+          (still_begun c.args.input.now c.args.limit c.loop-alloc.extent.end c.loop-alloc.extent.unended (c.goes_on.ensures.yes c.loop-alloc-test.true)
           (c.loop-alloc.invariant.2 b)),
     )
 
@@ -25,6 +25,6 @@ loop-alloc-preserved c =
       m.2,
       λ b.
           (rw c.in-Ok.is at c.next.ensures.ok)
-          (still_begun c.args.input.now c.loop-alloc.extent.end c.loop-alloc.extent.unended (c.goes_on.ensures.yes c.loop-alloc-test.true)
+          (still_begun c.args.input.now c.args.limit c.loop-alloc.extent.end c.loop-alloc.extent.unended (c.goes_on.ensures.yes c.loop-alloc-test.true)
           (c.loop-alloc.invariant.2 b)) (c.goes_on.ensures.yes c.loop-alloc-test.true),
     )
