@@ -1,7 +1,7 @@
 /*
  * cms-canon: the one DER encoding of a CMS signed message (RFC 5652 SignedData), or of a request, a response or a token of
  * time-stamping (RFC 3161); its listing; the rules of the standards that it breaks; whether two messages are the same; where each
- * of its fields lies; and the octets that its signatures cover.
+ * of its fields is; and the octets that its signatures cover.
  *
  *     struct cms_canon_outcome outcome;
  *     cms_canon_convert(input, input_length, CMS_CANON_LIMIT, output, output_room, &outcome);
@@ -20,11 +20,11 @@
  * A call may be made from a thread that has a stack of CMS_CANON_STACK octets, however deep the message is nested.
  *
  * As nothing is kept, each call reads the message from its beginning, and takes time in proportion to its length, whatever it
- * writes. cms_canon_fields says with one reading where all fields of all signers lie; a verifier that asks for the cover of each
+ * writes. cms_canon_fields says with one reading where all fields of all signers are; a verifier that asks for the cover of each
  * signer in turn takes time in proportion to the square of their number.
  *
- * No pointer may be NULL, even with a length of 0. `output`, `findings`, `fields`, `asked`, `outcome` and `many` must not overlap one
- * another or an input. A call must not be made from a signal handler, or from the forked child of a process with several threads.
+ * No pointer may be NULL, even with a length of 0. `output`, `findings`, `fields`, `asked`, `outcome`, `many` and `extent` must not overlap
+ * one another or an input. A call must not be made from a signal handler, or from the forked child of a process with several threads.
  */
 #ifndef CMS_CANON_H
 #define CMS_CANON_H
@@ -124,6 +124,37 @@ struct cms_canon_many {
 void cms_canon_convert_many(const uint8_t *input, size_t input_length, uint64_t limit,
                             uint8_t *output, size_t output_room, struct cms_canon_many *many);
 
+/* The values of `reach`. */
+enum cms_canon_reach {
+    CMS_CANON_MORE = 0,          /* octets are missing: they are a proper prefix of an element, and fewer than `limit` */
+    CMS_CANON_WHOLE = 1,         /* the element is whole: its length is `end`, at most `limit` */
+    CMS_CANON_NOTHING = 2,       /* after `end` octets no element begins that ends within `limit`: cms_canon_convert says why */
+    CMS_CANON_REACH_UNKNOWN = 3  /* malloc failed: call again with this extent */
+};
+
+/* How far an element reaches (X.690, section 8.1). */
+struct cms_canon_extent {
+    uint64_t end;     /* how many octets of the input were passed: headers of indefinite length, and whole elements after them */
+    uint64_t unended; /* how many elements of indefinite length have not ended there */
+    uint32_t reach;   /* enum cms_canon_reach */
+};
+
+/*
+ * Finds how far the element reaches that the `input_length` octets at `input` begin with: so a caller whose octets come in pieces
+ * learns when a whole message is there, and has it converted once. In the first call all of `extent` is 0. In a later one it is as the
+ * call before left it, and the input is that of the call before and the octets that have come since: the call goes on at the header
+ * where the one before stopped. All calls for a message take time in proportion to its headers and to the number of calls. If
+ * `extent` was changed, or the call before said CMS_CANON_WHOLE or CMS_CANON_NOTHING, the extent says nothing.
+ *
+ *     struct cms_canon_extent extent = {0};
+ *     do
+ *         length += read_more(input + length);
+ *     while (cms_canon_extent(input, length, CMS_CANON_LIMIT, &extent), extent.reach == CMS_CANON_MORE);
+ *
+ * Only headers are read, and not what is in elements of definite length: whether the element is a message, cms_canon_convert says.
+ */
+void cms_canon_extent(const uint8_t *input, size_t input_length, uint64_t limit, struct cms_canon_extent *extent);
+
 /*
  * Writes the octets that a signature covers (RFC 5652, sections 5.4 and 11.4), which a verifier digests: that of a signer of the
  * message at `input`, or of a countersignature. The `path_length` numbers at `path` say which. Each counts from 0, in the order
@@ -172,7 +203,7 @@ struct cms_canon_finding {
  *
  * No signature is verified: there is a finding of code 18 for each signer whose signature covers anything. It stands for the
  * verdict of a verifier that cannot tell. A caller that verifies drops it if the signature is right, and puts one of code 17 in
- * its place if the signature is wrong: cms_canon_fields says where what it needs lies, and what the signature covers.
+ * its place if the signature is wrong: cms_canon_fields says where what it needs is, and what the signature covers.
  *
  * If the content of the message is detached, it is handed in as the `content_length` octets at `content`, with `has_content`
  * true. If the message has its content itself, `content` is not used. The data that were time-stamped are the `data_length`
@@ -277,7 +308,7 @@ enum cms_canon_part_of_signer {
 };
 
 /*
- * Deprecated: a later release does not have it. cms_canon_fields says where all of these lie, with one reading.
+ * Deprecated: a later release does not have it. cms_canon_fields says where all of these are, with one reading.
  *
  * Writes the octets of a part of the signer or countersignature at `path`, which is that of cms_canon_cover, as they were
  * received. What the signer does not have is refused as `no such part` (CMS_CANON_NO_PART), and so is a number that is no part.
@@ -372,7 +403,7 @@ enum cms_canon_kind {
 };
 
 /*
- * Writes where each field of the message at `input` lies in it: a row for each, to the array `fields`, which has room for
+ * Writes where each field of the message is in `input`: a row for each, to the array `fields`, which has room for
  * `fields_room` of them. `octets` of the outcome says how many rows there are, and not octets. They come in the order of the
  * definitions, which is that of the octets, the members of a SET in the order read; the fields of a field come right after it, with a
  * level that is one more. A field that is absent has no row. So all of a message comes from one reading; for example, its signers and
@@ -399,7 +430,7 @@ void cms_canon_fields(const uint8_t *input, size_t input_length, uint64_t limit,
                       struct cms_canon_row *fields, size_t fields_room, struct cms_canon_outcome *outcome);
 
 /*
- * Writes where each field of a TSTInfo lies, which is the content of a time-stamp token, as cms_canon_fields does. The
+ * Writes where each field of a TSTInfo is, the content of a time-stamp token, as cms_canon_fields does. The
  * `content_length` octets at `content` are those of the rows CONTENT of the token, one after another, or the content that is
  * detached. If they are not a TSTInfo in DER, the call is refused as `not a TSTInfo in DER` (CMS_CANON_NO_TST_INFO). The content is
  * not limited.
