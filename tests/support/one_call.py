@@ -1,9 +1,10 @@
 #!/usr/bin/env python3
 """Makes one call of a library for C, with values for whatever its prototype asks for, and prints its status and a sum of what it writes.
 
-    python3 tests/one_call.py LIBRARY CALL MESSAGE TST_INFO
+    python3 tests/support/one_call.py LIBRARY CALL MESSAGE TST_INFO
 
-MESSAGE and TST_INFO are files. No content and no data are given, the path is 0, the part is 1, and there is room for 4,096 members.
+MESSAGE and TST_INFO are files. No content and no data are given, the path is 0, the part is 1, an extent is that of a first call, and there is room
+for 4,096 members.
 """
 
 import ctypes
@@ -20,6 +21,8 @@ FILL = b"\xa5" * (ROOM * LARGEST)
 LIMIT = 1 << 24
 NUMBERS = {"bool": ctypes.c_bool(False), "uint32_t": ctypes.c_uint32(1), "uint64_t": ctypes.c_uint64(LIMIT)}
 INPUTS = ("input", "first", "second")
+EXTENT, REACH = "struct cms_canon_extent *", slice(16, 20)  # where in an extent its reach is
+STATUS_OF_REACH = {1: 0, 3: 5}  # a whole element is a call that is done, and no memory is no memory
 
 
 def made(library, call, message, tst_info):
@@ -38,6 +41,9 @@ def made(library, call, message, tst_info):
             octets = given.get(name, b"") if kind == "const uint8_t *" else b""
             length = len(octets)
             words.append(ctypes.create_string_buffer(octets, length + 1))
+        elif kind == EXTENT:
+            writable.append(ctypes.create_string_buffer(24))
+            words.append(writable[-1])
         else:
             length = ROOM
             writable.append(ctypes.create_string_buffer(FILL, len(FILL)))
@@ -47,10 +53,16 @@ def made(library, call, message, tst_info):
     return outcome, outputs
 
 
+def status_of(call, outcome):
+    if call.arguments[-1][0] == EXTENT:
+        return STATUS_OF_REACH.get(int.from_bytes(outcome[REACH], sys.byteorder))
+    return int.from_bytes(outcome[:4], sys.byteorder)
+
+
 def main(library, name, *files):
     call = next(it for it in calls() if it.name == name)
     outcome, outputs = made(ctypes.CDLL(library), call, *(Path(it).read_bytes() for it in files))
-    status, wrote = int.from_bytes(outcome[:4], sys.byteorder), any(it != FILL for it in outputs)
+    status, wrote = status_of(call, outcome), any(it != FILL for it in outputs)
     print(status, hashlib.sha256(b"".join([outcome, *outputs])).hexdigest() if wrote or status == 0 else "nothing")
 
 
