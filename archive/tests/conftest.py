@@ -2,6 +2,7 @@
 
 from importlib import import_module
 
+import generated_messages
 import places
 import postgresql_server
 import pytest
@@ -26,6 +27,12 @@ def copied():
         patch.setattr(places, "copy", home)
         patch.syspath_prepend(str(home))
         yield home
+
+
+@pytest.fixture(scope="module", autouse=True)
+def messages_anew():
+    """Has the messages of a file be the same, whatever was spelled by the files before it: what is chosen at random depends on that too."""
+    generated_messages.beginning()
 
 
 @pytest.fixture(scope="session")
