@@ -34,6 +34,7 @@ from making import write_files, zipped
 from places import DATA
 from running import (
     AS_NOBODY, SECONDS, SETTLED, asked, begun, command, command_says, ended, environment_of, found_in, lines_of, ran, rows_in, store_of, wait_until,
+    words_of,
 )
 from tally import count
 
@@ -440,6 +441,21 @@ def test_replaced(home, archive, make):
     count_same("files that are no files any more", said, "0 files read, 0 unchanged, 2 gone\n")
 
 
+# Runs a command, and prints the peak of memory of its processes. What pytest begins would have that of pytest, from which it is forked.
+PEAK = """import resource, subprocess, sys
+status = subprocess.run(sys.argv[1:], stdout=subprocess.DEVNULL).returncode
+print(resource.getrusage(resource.RUSAGE_CHILDREN).ru_maxrss * 1024)
+sys.exit(status)
+"""
+
+
+def ended_with_peak(home, *words):
+    """Returns the status of the command, and the most octets that one of its processes had in memory."""
+    how = {"cwd": home, "env": environment_of(home), "stdout": subprocess.PIPE, "stderr": subprocess.DEVNULL, "text": True}
+    ended = subprocess.run([sys.executable, "-c", PEAK, *words_of(*words)], **how)
+    return ended.returncode, int(ended.stdout)
+
+
 def test_members(home):
     """The rows of very many members are stored at once and take no memory. Of a command that is killed meanwhile there is none, or all."""
     folder = home / "members"
@@ -459,9 +475,8 @@ def test_members(home):
     started.kill()
     started.wait()
     count_same("members of a tar whose reading was killed", (is_early, rows_in(path)), (True, 0))
-    _, status, usage = os.wait4(begun(home, *words, stderr=subprocess.DEVNULL).pid, 0)
-    memory = usage.ru_maxrss * 1024
-    count_same(f"{MEMBERS:,} members", (os.waitstatus_to_exitcode(status), rows_in(path)), (0, MEMBERS + 1))
+    status, memory = ended_with_peak(home, *words)
+    count_same(f"{MEMBERS:,} members", (status, rows_in(path)), (0, MEMBERS + 1))
     count_if("memory for them", memory < MOST_MEMORY, memory)
     print(f"the peak of memory for {MEMBERS:,} members: {memory / (1 << 20):.0f} MiB")
 
