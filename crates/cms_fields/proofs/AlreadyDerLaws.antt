@@ -13,7 +13,8 @@ use Rattle.cms_tlv.specs.Law.{Reads, IsField}
 use Rattle.cms_tlv.proofs.OctetsTaken.{taking_reads}
 use Rattle.cms_fields.specs.Canonical.{IsCanonical, IsByDer, IsDerFramed}
 use Rattle.cms_fields.specs.Readers.{already_der_of}
-use Rattle.cms_fields.specs.Writing.{IsWritten, Writes, HasLength, IsLengthOf}
+use Rattle.cms_fields.specs.Sinks.{Taking, IsTooLong, Emits, Overflows}
+use Rattle.cms_fields.specs.Writing.{IsWritten}
 
 -- what the inner bound reads
 module _ {W : Type 0} (f : Bound → Reader W) (bd inner : Bound) (is : inner ≡ record bd { strict = true }) where
@@ -69,17 +70,11 @@ module _ {V : Type 0} (R : Spelling V) where
       itself : IsWritten (with_octets R) alike v v.0
       itself = record { value = v; spells = (refl, r); same = equivalence.refl v.1 }
 
-      pub strict_writes : {a b : List ℕ} → b ≡ a ++ v.0 → Writes (with_octets R) alike v a b
-      strict_writes e = record { octets = v.0; appended = e; written = itself }
-
       only : (o : List ℕ) → IsWritten (with_octets R) alike v o → v.0 ≡ o
       only o w = (bytes_eq-Decides v.0 o).0 (strict_by_der.canonical.alike v.0 o v w.value (refl, r) w.spells ∙ w.same)
 
-      pub strict_length : (n : ℕ) → n ≡ min (length v.0) 0xFFFF_FFFF_FFFF_FFFF → HasLength (with_octets R) alike v n
-      strict_length n e = record {
-        each = λ o w. e ∙ ap (λ z. min (length z) 0xFFFF_FFFF_FFFF_FFFF) (only o w);
-        one = λ l. (v.0, itself);
-      }
+      pub strict_emits : {S : Type 0} {t : Taking S} {k : List ℕ} {a b : S} → t.puts k a v.0 b → Emits t (with_octets R) alike v k a b
+      strict_emits p = record { octets = v.0; put = p; written = itself; each = λ o w. ap length (sym (only o w)) }
 
-      pub strict_total : (n : ℕ) → IsLengthOf (with_octets R) alike v n → n ≡ length v.0
-      strict_total n h = h.2 ∙ ap length (sym (only h.0 h.1))
+      pub strict_overflows : (n : ℕ) → IsTooLong n (length v.0) → Overflows (with_octets R) alike v n
+      strict_overflows n l o w = subst (λ z. IsTooLong n (length z)) (only o w) l

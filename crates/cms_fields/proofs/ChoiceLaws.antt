@@ -1,5 +1,5 @@
 -- The laws of a choice of two fields.
-use Rattle.std.proofs.Common.{◌≡◌, ℕ, suc, ◌<◌, Bool, true, false, cond, List, ◌∷◌, ◌++◌, length, Option, Some, Ok, refl, sym, ap, subst, ◌∙◌, inl, inr, ◌⊎◌, arith}
+use Rattle.std.proofs.Common.{◌≡◌, ℕ, suc, ◌<◌, Bool, true, false, cond, List, ◌∷◌, ◌++◌, length, Option, Some, Ok, refl, sym, ap, subst, ◌∙◌, inl, inr, ◌⊎◌, ◌↔◌, arith}
 use Rattle.std.specs.Prelude.{◌||◌, min}
 use Rattle.std.specs.Cmp.{IsEquivalence}
 use Rattle.cms_tlv.specs.declared.fault.Reason.TheVariants.{Truncated}
@@ -23,7 +23,7 @@ use Rattle.cms_tlv.proofs.Ends.{peek_same, peek_some, peek_cut, field_octet}
 use Rattle.cms_tlv.proofs.Fields.{shown}
 use Rattle.cms_fields.specs.FirstOctets.{are_apart}
 use Rattle.cms_fields.specs.Canonical.{IsByDer, IsDerFramed}
-use Rattle.cms_fields.specs.Writing.{Writes, HasLength}
+use Rattle.cms_fields.specs.Writing.{IsWritten}
 use Rattle.cms_fields.specs.Choices.{choice_of, choice_value, same_choice}
 use Rattle.cms_fields.specs.Grammar.{is_either}
 use Rattle.cms_fields.proofs.FirstOctetLaws.{apart_at}
@@ -191,43 +191,19 @@ module _ {V W : Type 0} {s : V → V → Bool} {t : W → W → Bool} {R : Rules
 
 -- what is written
 module _ {V W : Type 0} (R : Spelling V) (S : Spelling W) (s : V → V → Bool) (t : W → W → Bool) where
-  pub first_writes : (v : V) {a b : List ℕ} → Writes R s v a b → Writes (either R S) (same_choice s t) (inl v) a b
-  first_writes v h =
-      record {
-        octets = h.octets;
-        appended = h.appended;
-        written = record
-            { value = inl h.written.value; spells = h.written.spells; same = h.written.same };
-      }
-
-  pub second_writes : (w : W) {a b : List ℕ} → Writes S t w a b → Writes (either R S) (same_choice s t) (inr w) a b
-  second_writes w h =
-      record {
-        octets = h.octets;
-        appended = h.appended;
-        written = record
-            { value = inr h.written.value; spells = h.written.spells; same = h.written.same };
-      }
-
-  pub first_length : (v : V) (n : ℕ) → HasLength R s v n → HasLength (either R S) (same_choice s t) (inl v) n
-  first_length v n k = record {
-    each = λ b w. go b w.value w.spells w.same;
-    one = λ small. let o = k.one small in (o.0, record { value = inl o.1.value; spells = o.1.spells; same = o.1.same });
-  }
+  pub first_alike : (v : V) (o : List ℕ) → IsWritten R s v o ↔ IsWritten (either R S) (same_choice s t) (inl v) o
+  first_alike v o = (λ h. record { value = inl h.value; spells = h.spells; same = h.same }, λ h. go h.value h.spells h.same)
     where
-      go : (b : List ℕ) (x : V ⊎ W) → either R S b x → same_choice s t (inl v) x ≡ true → n ≡ min (length b) 0xFFFF_FFFF_FFFF_FFFF
-      go b (inl u) r e = k.each b (record { value = u; spells = r; same = e })
-      go b (inr u) r e = absurd cc
+      go : (x : V ⊎ W) → either R S o x → same_choice s t (inl v) x ≡ true → IsWritten R s v o
+      go (inl u) r e = record { value = u; spells = r; same = e }
+      go (inr u) r e = absurd cc
 
-  pub second_length : (w : W) (n : ℕ) → HasLength S t w n → HasLength (either R S) (same_choice s t) (inr w) n
-  second_length w n k = record {
-    each = λ b x. go b x.value x.spells x.same;
-    one = λ small. let o = k.one small in (o.0, record { value = inr o.1.value; spells = o.1.spells; same = o.1.same });
-  }
+  pub second_alike : (w : W) (o : List ℕ) → IsWritten S t w o ↔ IsWritten (either R S) (same_choice s t) (inr w) o
+  second_alike w o = (λ h. record { value = inr h.value; spells = h.spells; same = h.same }, λ h. go h.value h.spells h.same)
     where
-      go : (b : List ℕ) (x : V ⊎ W) → either R S b x → same_choice s t (inr w) x ≡ true → n ≡ min (length b) 0xFFFF_FFFF_FFFF_FFFF
-      go b (inl u) r e = absurd cc
-      go b (inr u) r e = k.each b (record { value = u; spells = r; same = e })
+      go : (x : V ⊎ W) → either R S o x → same_choice s t (inr w) x ≡ true → IsWritten S t w o
+      go (inl u) r e = absurd cc
+      go (inr u) r e = record { value = u; spells = r; same = e }
 
 -- The exits of its reader, after the look at the next octet.
 module _ {V W : Type 0} (p : ℕ → Bool) (f : Bound → Reader V) (g : Bound → Reader W) (bd : Bound) {a b : State} {o : Option ℕ}

@@ -1,7 +1,7 @@
 -- Laws that crates above cite.
 pub mod CanonicalLaws
 pub mod WriteLaws
-pub mod LengthLaws
+pub mod EmitLaws
 pub mod DerLaws
 pub mod ReaderLaws
 pub mod FirstOctetLaws
@@ -15,7 +15,6 @@ pub mod ReceivedLaws
 pub mod AfterHeader
 pub mod SpannedLaws
 pub mod IndexedLaws
-pub mod PouringLaws
 mod DerReads
 pub mod WhyFields
 pub mod GrammarLaws

@@ -1,5 +1,5 @@
 -- The laws of the readers of records, put together from those of their parts.
-use Rattle.std.proofs.Common.{◌≡◌, ◌≢◌, ℕ, Bool, true, false, not, cond, ◌&&◌, eqb, List, [], ◌∷◌, ◌++◌, length, Option, None, Some, is_some, Result, Ok, Err, refl, sym, ap, subst, ◌∙◌, inl, inr, arith}
+use Rattle.std.proofs.Common.{◌≡◌, ◌↔◌, ◌≢◌, ℕ, Bool, true, false, not, cond, ◌&&◌, eqb, List, [], ◌∷◌, ◌++◌, length, Option, None, Some, is_some, Result, Ok, Err, refl, sym, ap, subst, ◌∙◌, inl, inr, arith}
 use Rattle.std.specs.Prelude.{◌||◌, IfOk, OnOk, IfSome, option_map, bytes_eq}
 use Rattle.cms_tlv.specs.declared.fault.Fault.{Fault}
 use Rattle.cms_tlv.specs.declared.fault.Reason.{Reason}
@@ -18,7 +18,7 @@ use Rattle.std.proofs.lemmas.Slice.Eq.{bytes_eq-Decides}
 use Rattle.cms_tlv.specs.Opaque.{IsOpaque}
 use Rattle.cms_tlv.proofs.OpaqueReads.{opaque_reads, opaque_field}
 use Rattle.cms_fields.specs.Received.{as_received}
-use Rattle.cms_fields.specs.Writing.{IsWritten, Writes, HasLength}
+use Rattle.cms_fields.specs.Writing.{IsWritten}
 use Rattle.std.proofs.lemmas.List.{append-nil}
 use Rattle.cms_tlv.specs.declared.fault.Reason.TheVariants.{Truncated}
 use Rattle.cms_tlv.specs.declared.bound.Bound.{Bound}
@@ -192,14 +192,8 @@ module _ {V : Type 0} {R : Spelling V} {s : V → V → Bool} (Q : V → Type 0)
   where_written : {o : List ℕ} → IsWritten R s v o → IsWritten (R where_value Q) s v o
   where_written w = record { value = w.value; spells = (w.spells, keeps w.value w.same); same = w.same }
 
-  pub where_writes : {a b : List ℕ} → Writes R s v a b → Writes (R where_value Q) s v a b
-  where_writes h = record { octets = h.octets; appended = h.appended; written = where_written h.written }
-
-  pub where_length : (n : ℕ) → HasLength R s v n → HasLength (R where_value Q) s v n
-  where_length n k = record {
-    each = λ o w. k.each o (record { value = w.value; spells = w.spells.0; same = w.same });
-    one = λ small. (let o = k.one small in (o.0, where_written o.1));
-  }
+  pub where_alike : (o : List ℕ) → IsWritten R s v o ↔ IsWritten (R where_value Q) s v o
+  where_alike o = (λ h. where_written h, λ h. record { value = h.value; spells = h.spells.0; same = h.same })
 
 -- octets that are the same are equal
 pub keeps_octets : (Q : List ℕ → Type 0) (v : List ℕ) → Q v → (w : List ℕ) → bytes_eq v w ≡ true → Q w

@@ -1,5 +1,5 @@
 -- The laws of contents of one of two kinds, distinguished by the value of their first field.
-use Rattle.std.proofs.Common.{◌≡◌, ℕ, ◌+◌, ◌-◌, ◌≤◌, Bool, true, false, cond, List, ◌++◌, length, min, Option, Ok, refl, sym, ap, subst, ◌∙◌, inl, inr, ◌⊎◌, arith, length-append, append_assoc}
+use Rattle.std.proofs.Common.{◌≡◌, ◌↔◌, ℕ, ◌+◌, ◌-◌, ◌≤◌, Bool, true, false, cond, List, ◌++◌, length, min, Option, Ok, refl, sym, ap, subst, ◌∙◌, inl, inr, ◌⊎◌, arith, length-append, append_assoc}
 use Rattle.std.specs.Prelude.{bytes_eq}
 use mathlib.Core.Bool.{◌&&◌}
 use Rattle.std.specs.Cmp.{IsEquivalence, and_equiv, on_equiv, first_so, second_so}
@@ -7,7 +7,7 @@ use Rattle.std.proofs.lemmas.Slice.Eq.{bytes_eq-Decides}
 use Rattle.cms_tlv.specs.declared.bound.Bound.{Bound}
 use Rattle.cms_tlv.specs.declared.fault.Fault.{Fault}
 use Rattle.cms_tlv.specs.Frames.{Frames, more}
-use Rattle.cms_tlv.specs.Spelling.{Rules, ber, der, Spelling, either}
+use Rattle.cms_tlv.specs.Spelling.{◌⨟◌, Rules, ber, der, Spelling, either}
 use Rattle.cms_tlv.specs.Reading.{Cursor, Reader, ◌>>=◌, give}
 use Rattle.cms_tlv.specs.Clauses.{Room}
 use Rattle.cms_tlv.specs.State.{State}
@@ -26,7 +26,7 @@ use Rattle.cms_fields.specs.Choices.{choice_value, same_choice}
 use Rattle.cms_fields.specs.Grammar.{is_either, is_of}
 use Rattle.cms_fields.specs.Readers.{Begins}
 use Rattle.cms_fields.specs.Selected.{then_by_value, either_by, is_selected, selected_of}
-use Rattle.cms_fields.specs.Writing.{IsWritten, Writes, HasLength, IsLengthOf}
+use Rattle.cms_fields.specs.Writing.{IsWritten}
 use Rattle.cms_fields.proofs.CanonicalLaws.{canonical_by, both_true, to_same, to_equal}
 use Rattle.cms_fields.proofs.ChoiceLaws.{choice_equivalence}
 use Rattle.cms_fields.proofs.ReaderLaws.{mapped_reads, field_begins, pairs}
@@ -210,85 +210,26 @@ told R S s u f g t (choices.First a) (inr w) b i e r = absurd cc
 told R S s u f g t (choices.Second a) (inl w) b i e r = absurd cc
 told R S s u f g t (choices.Second a) (inr w) b i e r = (i, r)
 
-module _ {X Y V W : Type 0} (test : List ℕ → Bool) {Q : Spelling (List ℕ)} {R : Spelling V} {S : Spelling W} {s : V → V → Bool}
+module _ {X Y V W : Type 0} (test : List ℕ → Bool) (Q : Spelling (List ℕ)) {R : Spelling V} {S : Spelling W} {s : V → V → Bool}
     {u : W → W → Bool} (f : X → V) (g : Y → W) (v : List ℕ) (x : Choice X Y) (due : is_selected (test v) x) where
-  by_value_written : {o q : List ℕ} → IsWritten Q bytes_eq v o → IsWritten (either R S) (same_choice s u) (choice_value f g x) q
-      → IsWritten (then_by_value Q (λ t. either_by (test t) R S)) (λ y z. bytes_eq y.0 z.0 && same_choice s u y.1 z.1)
-      (v, choice_value f g x) (o ++ q)
-  by_value_written {o} {q} a b =
-      record {
-        value = (a.value, b.value);
-        spells = (
-          o,
-          q,
-          refl,
-          a.spells,
-          told R S s u f g (test a.value) x b.value q (subst (λ z. is_selected (test z) x) ((bytes_eq-Decides v a.value).0 a.same) due) b.same
-              b.spells,
-        );
-        same = both_true _ _ a.same b.same;
-      }
-
-  pub by_value_writes : {a b c : List ℕ} → Writes Q bytes_eq v a b → Writes (either R S) (same_choice s u) (choice_value f g x) b c
-      → Writes (then_by_value Q (λ t. either_by (test t) R S)) (λ y z. bytes_eq y.0 z.0 && same_choice s u y.1 z.1) (v, choice_value f g x) a c
-  by_value_writes {a} {b} {c} p q = record {
-    octets = p.octets ++ q.octets;
-    appended = q.appended ∙ (ap (λ z. z ++ q.octets) p.appended ∙ append_assoc a p.octets q.octets);
-    written = by_value_written p.written q.written;
-  }
-
-  by_value_each : (n m : ℕ) → HasLength Q bytes_eq v n → HasLength (either R S) (same_choice s u) (choice_value f g x) m → (b : List ℕ)
-      → IsWritten (then_by_value Q (λ t. either_by (test t) R S)) (λ y z. bytes_eq y.0 z.0 && same_choice s u y.1 z.1)
-      (v, choice_value f g x) b → min (n + m) 0xFFFF_FFFF_FFFF_FFFF ≡ min (length b) 0xFFFF_FFFF_FFFF_FFFF
-  by_value_each n m k j b h =
-      let r = h.spells in
-      let e : n ≡ min (length r.0) 0xFFFF_FFFF_FFFF_FFFF =
-      k.each r.0 (record {
-        value = h.value.0;
-        spells = r.3;
-        same = first_so (bytes_eq v h.value.0)
-            (same_choice s u (choice_value f g x) h.value.1) h.same;
-      }) in
-      let d : m ≡ min (length r.1) 0xFFFF_FFFF_FFFF_FFFF =
-      j.each r.1 (record {
-        value = h.value.1;
-        spells = of_either R S (test h.value.0) r.1 h.value.1 r.4;
-        same = second_so (bytes_eq v h.value.0) (same_choice s u (choice_value f g x) h.value.1) h.same;
-      }) in
-      let l : length b ≡ length r.0 + length r.1 = ap length r.2 ∙ length-append r.0 r.1 in
-      omega arith
-
-  pub by_value_length : (n m : ℕ) → HasLength Q bytes_eq v n → HasLength (either R S) (same_choice s u) (choice_value f g x) m
-      → HasLength (then_by_value Q (λ t. either_by (test t) R S)) (λ y z. bytes_eq y.0 z.0 && same_choice s u y.1 z.1)
-      (v, choice_value f g x) (min (n + m) 0xFFFF_FFFF_FFFF_FFFF)
-  by_value_length n m k j = record {
-    each = by_value_each n m k j;
-    one = λ small. let o = k.one (omega arith) in let q = j.one (omega arith) in (o.0 ++ q.0, by_value_written o.1 q.1);
-  }
-
-  pub by_value_parts : (n m : ℕ) → n ≤ 0xFFFF_FFFF_FFFF_FFFF
-      → IsLengthOf (then_by_value Q (λ t. either_by (test t) R S)) (λ y z. bytes_eq y.0 z.0 && same_choice s u y.1 z.1)
-      (v, choice_value f g x) n → HasLength Q bytes_eq v m → (m ≤ n) × (IsLengthOf Q bytes_eq v m)
-      × (IsLengthOf (either R S) (same_choice s u) (choice_value f g x) (n - m))
-  by_value_parts n m most k j =
-      let h = k.1 in
-      let r = h.spells in
-      let a : IsWritten Q bytes_eq v r.0 =
-      record {
-        value = h.value.0;
-        spells = r.3;
-        same = first_so (bytes_eq v h.value.0) (same_choice s u (choice_value f g x) h.value.1)
-            h.same;
-      } in
-      let b : IsWritten (either R S) (same_choice s u) (choice_value f g x) r.1 =
-      record {
-        value = h.value.1;
-        spells = of_either R S (test h.value.0) r.1 h.value.1 r.4;
-        same = second_so (bytes_eq v h.value.0) (same_choice s u (choice_value f g x) h.value.1) h.same;
-      } in
-      let e : m ≡ min (length r.0) 0xFFFF_FFFF_FFFF_FFFF = j.each r.0 a in
-      let l : n ≡ length r.0 + length r.1 = k.2 ∙ (ap length r.2 ∙ length-append r.0 r.1) in
-      (omega arith, (r.0, a, omega arith), (r.1, b, omega arith))
+  pub by_value_alike : (o : List ℕ)
+      → IsWritten (Q ⨟ either R S) (λ y z. bytes_eq y.0 z.0 && same_choice s u y.1 z.1) (v, choice_value f g x) o
+      ↔ IsWritten (then_by_value Q (λ t. either_by (test t) R S)) (λ y z. bytes_eq y.0 z.0 && same_choice s u y.1 z.1)
+      (v, choice_value f g x) o
+  by_value_alike o = (
+    λ h.
+        let r = h.spells in
+        let first = (bytes_eq-Decides v h.value.0).0 (first_so (bytes_eq v h.value.0) (same_choice s u (choice_value f g x) h.value.1) h.same) in
+        let rest = second_so (bytes_eq v h.value.0) (same_choice s u (choice_value f g x) h.value.1) h.same in
+        record {
+          value = h.value;
+          spells = (r.0, r.1, r.2, r.3, told R S s u f g (test h.value.0) x h.value.1 r.1 (subst (λ z. is_selected (test z) x) first due) rest r.4);
+          same = h.same;
+        },
+    λ h.
+        let r = h.spells in
+        record { value = h.value; spells = (r.0, r.1, r.2, r.3, of_either R S (test h.value.0) r.1 h.value.1 r.4); same = h.same },
+  )
 
 -- a spelled value is of the kind that is due
 pub selected_known : {V W : Type 0} (t : Bool) (R : Spelling V) (S : Spelling W) {P : V → Type 0} {Q : W → Type 0} {b : List ℕ}

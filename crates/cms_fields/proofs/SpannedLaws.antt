@@ -1,5 +1,5 @@
 -- The octets that spans name, one after another.
-use Rattle.std.proofs.Common.{◌≡◌, ℕ, ◌+◌, ◌<◌, List, [], ◌∷◌, ◌++◌, length, get_or, take, drop, sym, ap, ◌∙◌}
+use Rattle.std.proofs.Common.{◌≡◌, ℕ, ◌+◌, ◌<◌, ◌≤◌, List, [], ◌∷◌, ◌++◌, length, get_or, take, drop, sym, ap, ◌∙◌, arith, length-append}
 use Rattle.std.proofs.lemmas.List.{append-nil, map_more, take-append-drop, map-append}
 use Rattle.std.proofs.lemmas.Grind.{flat_map-append}
 use Rattle.cms_tlv.specs.declared.span.Span.{Span}
@@ -28,3 +28,11 @@ pub spanned_parts : (k : List ℕ) (spans : List Span) (i : ℕ)
 spanned_parts k spans i =
     ap (λ z. join (spanned_in k z)) (sym (take-append-drop i spans))
     ∙ (ap join (map-append (named k) (take i spans) (drop i spans)) ∙ joined (spanned_in k (take i spans)) (spanned_in k (drop i spans)))
+
+-- those of a span and of the spans after it are no more than all of them
+pub shorter_rest : (k : List ℕ) (i : ℕ) (x : Span) (rest spans : List Span) → drop i spans ≡ x ∷ rest
+    → length (octets_in k x.start x.end) + length (join (spanned_in k rest)) ≤ length (join (spanned_in k spans))
+shorter_rest k i x rest spans e =
+    let p = ap length (spanned_parts k spans i) ∙ length-append (join (spanned_in k (take i spans))) (join (spanned_in k (drop i spans))) in
+    let q = ap (λ z. length (join (spanned_in k z))) e ∙ length-append (octets_in k x.start x.end) (join (spanned_in k rest)) in
+    omega (arith, p, q)

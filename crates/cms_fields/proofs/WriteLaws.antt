@@ -37,7 +37,7 @@ module _ {V : Type 0} {R : Spelling V} {s : V → V → Bool} {v : V} where
   pub writes_grew : {a b : List ℕ} → Writes R s v a b → Grew a b
   writes_grew h = (h.octets, h.appended)
 
-  element_written : (id : ℕ) {l o : List ℕ} → IsShortLength l (length o) → IsWritten R s v o → IsWritten (element der id R) s v (id ∷ (l ++ o))
+  pub element_written : (id : ℕ) {l o : List ℕ} → IsShortLength l (length o) → IsWritten R s v o → IsWritten (element der id R) s v (id ∷ (l ++ o))
   element_written id {l} {o} p w = record { value = w.value; spells = (o, of_short_length o p, w.spells); same = w.same }
 
   element_of : (id n : ℕ) {a b c : List ℕ} → AppendsHeader id n a b → (q : Writes R s v b c) → n ≡ length q.octets → Writes (element der id R) s v a c

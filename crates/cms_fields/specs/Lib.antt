@@ -1,6 +1,6 @@
 pub mod Canonical
 pub mod Writing
-pub mod Gathering
+pub mod Sinks
 pub mod Received
 pub mod FirstOctets
 pub mod Readers
@@ -10,4 +10,3 @@ pub mod Contents
 pub mod ReadingCalls
 pub mod Indexed
 pub mod Grammar
-pub mod internal

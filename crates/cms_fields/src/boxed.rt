@@ -1,9 +1,8 @@
 //! Fields in memory of their own, so that what holds them has one size, whatever they are.
 use crate::field::Fields;
-use crate::gathered::Gathered;
+use crate::sink::{Sink, Stop};
 use crate::write::Write;
 use cms_tlv::{Bound, Fault, Input, Source};
-use std::alloc::{AllocError, Global};
 
 impl<T: Write> Write for Box<T> {
     ghost Value = { T.Value };
@@ -12,32 +11,8 @@ impl<T: Write> Write for Box<T> {
 
     ghost value = { λ k x. T.value k x.value };
 
-    fn encoded_len(&self, kept: &[u8]) -> u64 {
-        (**self).encoded_len(kept)
-    }
-
-    fn append_with_len(
-        &self,
-        n: u64,
-        alloc: Global,
-        kept: &[u8],
-        out: &mut Vec<u8>,
-    ) -> Result<(), AllocError> {
-        (**self).append_with_len(n, alloc, kept, out)
-    }
-
-    fn gather_with_len(
-        &self,
-        n: u64,
-        alloc: Global,
-        kept: &[u8],
-        out: &mut Gathered,
-    ) -> Result<(), AllocError> {
-        (**self).gather_with_len(n, alloc, kept, out)
-    }
-
-    fn lies_in(&self, start: usize, end: usize, kept: &[u8]) -> bool {
-        (**self).lies_in(start, end, kept)
+    fn emit<S: Sink>(&self, kept: &[u8], sink: &mut S) -> Result<(), Stop> {
+        (**self).emit(kept, sink)
     }
 
     fn law() {

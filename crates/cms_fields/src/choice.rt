@@ -5,10 +5,9 @@ ghost use Rattle.cms_fields.specs.Grammar.{choice};
 
 use crate::contents::begins;
 use crate::field::Field;
-use crate::gathered::Gathered;
+use crate::sink::{Sink, Stop};
 use crate::write::Write;
 use cms_tlv::{Bound, Fault, Input, Source};
-use std::alloc::{AllocError, Global};
 
 /// The one field or the other, which begin with different octets. If the next octet begins neither, the
 /// refusal is that of the second.
@@ -25,43 +24,10 @@ impl<A: Write, B: Write> Write for Choice<A, B> {
 
     ghost value = { λ k x. choice_value (A.value k) (B.value k) x };
 
-    fn encoded_len(&self, kept: &[u8]) -> u64 {
+    fn emit<S: Sink>(&self, kept: &[u8], sink: &mut S) -> Result<(), Stop> {
         match self {
-            Choice::First(field) => field.encoded_len(kept),
-            Choice::Second(field) => field.encoded_len(kept),
-        }
-    }
-
-    fn append_with_len(
-        &self,
-        n: u64,
-        alloc: Global,
-        kept: &[u8],
-        out: &mut Vec<u8>,
-    ) -> Result<(), AllocError> {
-        match self {
-            Choice::First(field) => field.append_with_len(n, alloc, kept, out),
-            Choice::Second(field) => field.append_with_len(n, alloc, kept, out),
-        }
-    }
-
-    fn gather_with_len(
-        &self,
-        n: u64,
-        alloc: Global,
-        kept: &[u8],
-        out: &mut Gathered,
-    ) -> Result<(), AllocError> {
-        match self {
-            Choice::First(field) => field.gather_with_len(n, alloc, kept, out),
-            Choice::Second(field) => field.gather_with_len(n, alloc, kept, out),
-        }
-    }
-
-    fn lies_in(&self, start: usize, end: usize, kept: &[u8]) -> bool {
-        match self {
-            Choice::First(field) => field.lies_in(start, end, kept),
-            Choice::Second(field) => field.lies_in(start, end, kept),
+            Choice::First(field) => field.emit(kept, sink),
+            Choice::Second(field) => field.emit(kept, sink),
         }
     }
 

@@ -6,10 +6,9 @@ ghost use Rattle.cms_tlv.specs.Reading.{may_be, optional_of, ends_here};
 ghost use Rattle.cms_fields.specs.Grammar.{last, last_optional, optional_then, then_by};
 
 use crate::field::{Field, Fields};
-use crate::gathered::Gathered;
+use crate::sink::{Sink, Stop};
 use crate::write::Write;
 use cms_tlv::{Bound, Fault, Input, Source};
-use std::alloc::{AllocError, Global};
 
 /// The field `A`, then the fields `B`.
 #[derive(Drop)]
@@ -22,42 +21,10 @@ impl<A: Write, B: Write> Write for Then<A, B> {
 
     ghost value = { λ k x. (A.value k x.0, B.value k x.1) };
 
-    fn encoded_len(&self, kept: &[u8]) -> u64 {
-        let first = self.0.encoded_len(kept);
-        first.saturating_add(self.1.encoded_len(kept))
-    }
-
-    fn append_with_len(
-        &self,
-        n: u64,
-        alloc: Global,
-        kept: &[u8],
-        out: &mut Vec<u8>,
-    ) -> Result<(), AllocError> {
-        let first = self.0.encoded_len(kept);
-        self.0.append_with_len(first, alloc, kept, out)?;
-        self.1.append_with_len(n - first, alloc, kept, out)
-    }
-
-    fn gather_with_len(
-        &self,
-        n: u64,
-        alloc: Global,
-        kept: &[u8],
-        out: &mut Gathered,
-    ) -> Result<(), AllocError> {
-        let first = self.0.encoded_len(kept);
-        self.0.gather_with_len(first, alloc, kept, out)?;
-        self.1.gather_with_len(n - first, alloc, kept, out)
-    }
-
-    fn lies_in(&self, start: usize, end: usize, kept: &[u8]) -> bool {
-        let first = self.0.encoded_len(kept);
-        if first > (end - start) as u64 {
-            return false;
-        }
-        let middle = start + first as usize;
-        self.0.lies_in(start, middle, kept) && self.1.lies_in(middle, end, kept)
+    fn emit<S: Sink>(&self, kept: &[u8], sink: &mut S) -> Result<(), Stop> {
+        S::law();
+        self.1.emit(kept, sink)?;
+        self.0.emit(kept, sink)
     }
 
     fn law() {
@@ -85,32 +52,8 @@ impl<A: Write, B: Write> Write for OptionalThen<A, B> {
 
     ghost value = { λ k x. (option_map (A.value k) x.0, B.value k x.1) };
 
-    fn encoded_len(&self, kept: &[u8]) -> u64 {
-        Then(&self.0, &self.1).encoded_len(kept)
-    }
-
-    fn append_with_len(
-        &self,
-        n: u64,
-        alloc: Global,
-        kept: &[u8],
-        out: &mut Vec<u8>,
-    ) -> Result<(), AllocError> {
-        Then(&self.0, &self.1).append_with_len(n, alloc, kept, out)
-    }
-
-    fn gather_with_len(
-        &self,
-        n: u64,
-        alloc: Global,
-        kept: &[u8],
-        out: &mut Gathered,
-    ) -> Result<(), AllocError> {
-        Then(&self.0, &self.1).gather_with_len(n, alloc, kept, out)
-    }
-
-    fn lies_in(&self, start: usize, end: usize, kept: &[u8]) -> bool {
-        Then(&self.0, &self.1).lies_in(start, end, kept)
+    fn emit<S: Sink>(&self, kept: &[u8], sink: &mut S) -> Result<(), Stop> {
+        Then(&self.0, &self.1).emit(kept, sink)
     }
 
     fn law() {
@@ -141,32 +84,8 @@ impl<A: Write> Write for Last<A> {
 
     ghost value = { λ k x. A.value k x.0 };
 
-    fn encoded_len(&self, kept: &[u8]) -> u64 {
-        self.0.encoded_len(kept)
-    }
-
-    fn append_with_len(
-        &self,
-        n: u64,
-        alloc: Global,
-        kept: &[u8],
-        out: &mut Vec<u8>,
-    ) -> Result<(), AllocError> {
-        self.0.append_with_len(n, alloc, kept, out)
-    }
-
-    fn gather_with_len(
-        &self,
-        n: u64,
-        alloc: Global,
-        kept: &[u8],
-        out: &mut Gathered,
-    ) -> Result<(), AllocError> {
-        self.0.gather_with_len(n, alloc, kept, out)
-    }
-
-    fn lies_in(&self, start: usize, end: usize, kept: &[u8]) -> bool {
-        self.0.lies_in(start, end, kept)
+    fn emit<S: Sink>(&self, kept: &[u8], sink: &mut S) -> Result<(), Stop> {
+        self.0.emit(kept, sink)
     }
 
     fn law() {
@@ -190,43 +109,13 @@ impl<T: Write> Write for Option<T> {
 
     ghost value = { λ k x. option_map (T.value k) x };
 
-    fn encoded_len(&self, kept: &[u8]) -> u64 {
+    fn emit<S: Sink>(&self, kept: &[u8], sink: &mut S) -> Result<(), Stop> {
         match self {
-            Some(x) => x.encoded_len(kept),
-            None => 0,
-        }
-    }
-
-    fn append_with_len(
-        &self,
-        n: u64,
-        alloc: Global,
-        kept: &[u8],
-        out: &mut Vec<u8>,
-    ) -> Result<(), AllocError> {
-        match self {
-            Some(x) => x.append_with_len(n, alloc, kept, out),
-            None => Ok(()),
-        }
-    }
-
-    fn gather_with_len(
-        &self,
-        n: u64,
-        alloc: Global,
-        kept: &[u8],
-        out: &mut Gathered,
-    ) -> Result<(), AllocError> {
-        if let Some(x) = self {
-            x.gather_with_len(n, alloc, kept, out)?;
-        }
-        Ok(())
-    }
-
-    fn lies_in(&self, start: usize, end: usize, kept: &[u8]) -> bool {
-        match self {
-            Some(x) => x.lies_in(start, end, kept),
-            None => start == end,
+            Some(x) => x.emit(kept, sink),
+            None => {
+                S::law();
+                Ok(())
+            }
         }
     }
 

@@ -9,10 +9,9 @@ ghost use Rattle.cms_fields.specs.Grammar.{contents_choice};
 use crate::choice::Choice;
 use crate::contents::{Then, begins};
 use crate::field::{Field, Fields};
-use crate::gathered::Gathered;
+use crate::sink::{Sink, Stop};
 use crate::write::Write;
 use cms_tlv::{Bound, Fault, Input, Source};
-use std::alloc::{AllocError, Global};
 
 /// The field `A` and the fields `R`, or else the fields `B`, which begin with other octets than `A`. If
 /// the next octet does not begin `A`, the refusal is that of `B`.
@@ -26,32 +25,8 @@ impl<A: Write, R: Write, B: Write> Write for ContentsChoice<A, R, B> {
 
     ghost value = { λ k x. choice_value (λ y. (A.value k y.0, R.value k y.1)) (B.value k) x.0 };
 
-    fn encoded_len(&self, kept: &[u8]) -> u64 {
-        self.0.encoded_len(kept)
-    }
-
-    fn append_with_len(
-        &self,
-        n: u64,
-        alloc: Global,
-        kept: &[u8],
-        out: &mut Vec<u8>,
-    ) -> Result<(), AllocError> {
-        self.0.append_with_len(n, alloc, kept, out)
-    }
-
-    fn gather_with_len(
-        &self,
-        n: u64,
-        alloc: Global,
-        kept: &[u8],
-        out: &mut Gathered,
-    ) -> Result<(), AllocError> {
-        self.0.gather_with_len(n, alloc, kept, out)
-    }
-
-    fn lies_in(&self, start: usize, end: usize, kept: &[u8]) -> bool {
-        self.0.lies_in(start, end, kept)
+    fn emit<S: Sink>(&self, kept: &[u8], sink: &mut S) -> Result<(), Stop> {
+        self.0.emit(kept, sink)
     }
 
     fn law() {

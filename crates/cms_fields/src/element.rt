@@ -9,10 +9,9 @@ ghost use Rattle.cms_fields.specs.Contents.{FaultsIn};
 ghost use Rattle.cms_fields.specs.Grammar.{IsReadBy, tagged};
 
 use crate::field::{Field, Fields};
-use crate::gathered::Gathered;
-use crate::write::{Write, append_element_with_len, element_len, element_lies_in};
+use crate::sink::{Sink, Stop};
+use crate::write::{Write, emit_element};
 use cms_tlv::{Bound, Fault, Input, Source};
-use std::alloc::{AllocError, Global};
 
 /// An element with the identifier octet `ID` that holds `A`. When it is read, its length may be
 /// definite or indefinite; when it is written, its length is the shortest definite one (X.690, 10.1).
@@ -26,32 +25,8 @@ impl<const ID: u8, A: Write> Write for Tagged<ID, A> {
 
     ghost value = { λ k x. A.value k x.0 };
 
-    fn encoded_len(&self, kept: &[u8]) -> u64 {
-        element_len(&self.0, kept)
-    }
-
-    fn append_with_len(
-        &self,
-        n: u64,
-        alloc: Global,
-        kept: &[u8],
-        out: &mut Vec<u8>,
-    ) -> Result<(), AllocError> {
-        append_element_with_len(ID, n, &self.0, alloc, kept, out)
-    }
-
-    fn gather_with_len(
-        &self,
-        n: u64,
-        alloc: Global,
-        kept: &[u8],
-        out: &mut Gathered,
-    ) -> Result<(), AllocError> {
-        out.append_element_with_len(ID, n, &self.0, alloc, kept)
-    }
-
-    fn lies_in(&self, start: usize, end: usize, kept: &[u8]) -> bool {
-        element_lies_in(ID, &self.0, start, end, kept)
+    fn emit<S: Sink>(&self, kept: &[u8], sink: &mut S) -> Result<(), Stop> {
+        emit_element(ID, &self.0, kept, sink)
     }
 
     fn law() {

@@ -6,9 +6,9 @@ ghost use Rattle.cms_fields.specs.Grammar.{opaque_element};
 
 use crate::field::Field;
 use crate::received::{Kind, Received};
+use crate::sink::{Sink, Stop};
 use crate::write::Write;
 use cms_tlv::{Bound, Fault, Input, Source};
-use std::alloc::{AllocError, Global};
 
 /// The octets of an opaque element.
 #[derive(Drop)]
@@ -29,22 +29,8 @@ impl Write for Opaque {
 
     ghost value = { λ k x. octets_in k x.0.span.start x.0.span.end };
 
-    fn encoded_len(&self, kept: &[u8]) -> u64 {
-        self.0.encoded_len(kept)
-    }
-
-    fn append_with_len(
-        &self,
-        n: u64,
-        alloc: Global,
-        kept: &[u8],
-        out: &mut Vec<u8>,
-    ) -> Result<(), AllocError> {
-        self.0.append_with_len(n, alloc, kept, out)
-    }
-
-    fn lies_in(&self, start: usize, end: usize, kept: &[u8]) -> bool {
-        self.0.lies_in(start, end, kept)
+    fn emit<S: Sink>(&self, kept: &[u8], sink: &mut S) -> Result<(), Stop> {
+        self.0.emit(kept, sink)
     }
 
     fn law() {}

@@ -3,9 +3,9 @@ ghost use Rattle.std.specs.Prelude.{◌≡◌, ℕ, List};
 ghost use Rattle.cms_tlv.specs.Spans.{octets_in};
 ghost use Rattle.cms_fields.specs.Grammar.{octets_with};
 
+use crate::sink::{Sink, Stop};
 use crate::write::Write;
 use cms_tlv::Span;
-use std::alloc::{AllocError, Global};
 use std::marker::PhantomData;
 
 /// Which octets may be kept as they were received.
@@ -40,22 +40,8 @@ impl<K: Kind> Write for Received<K> {
 
     ghost value = { λ k x. octets_in k x.span.start x.span.end };
 
-    fn encoded_len(&self, kept: &[u8]) -> u64 {
-        self.span.octets(kept).len() as u64
-    }
-
-    fn append_with_len(
-        &self,
-        _: u64,
-        alloc: Global,
-        kept: &[u8],
-        out: &mut Vec<u8>,
-    ) -> Result<(), AllocError> {
-        out.extend_from_slice(self.span.octets(kept))
-    }
-
-    fn lies_in(&self, start: usize, end: usize, _: &[u8]) -> bool {
-        self.span.start == start && self.span.end == end
+    fn emit<S: Sink>(&self, kept: &[u8], sink: &mut S) -> Result<(), Stop> {
+        sink.span(kept, self.span)
     }
 
     fn law() {}

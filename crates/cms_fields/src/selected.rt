@@ -7,9 +7,9 @@ ghost use Rattle.cms_fields.specs.Grammar.{selected};
 use crate::choice::Choice;
 use crate::field::Fields;
 use crate::primitive::{Primitive, Scalar, read_scalar};
+use crate::sink::{Sink, Stop};
 use crate::write::Write;
 use cms_tlv::{Bound, Fault, Input, Source};
-use std::alloc::{AllocError, Global};
 use std::marker::PhantomData;
 
 /// A test of the contents octets of a first field, which says of what kind the fields after it are.
@@ -43,30 +43,10 @@ impl<const ID: u8, K: Scalar, S: Selector, A: Write, B: Write> Write for Selecte
     ghost value = { λ k x.
         (octets_in k x.0.0.span.start x.0.0.span.end, choice_value (A.value k) (B.value k) x.1) };
 
-    fn encoded_len(&self, kept: &[u8]) -> u64 {
-        let first = self.0.encoded_len(kept);
-        first.saturating_add(self.1.encoded_len(kept))
-    }
-
-    fn append_with_len(
-        &self,
-        n: u64,
-        alloc: Global,
-        kept: &[u8],
-        out: &mut Vec<u8>,
-    ) -> Result<(), AllocError> {
-        let first = self.0.encoded_len(kept);
-        self.0.append_with_len(first, alloc, kept, out)?;
-        self.1.append_with_len(n - first, alloc, kept, out)
-    }
-
-    fn lies_in(&self, start: usize, end: usize, kept: &[u8]) -> bool {
-        let first = self.0.encoded_len(kept);
-        if first > (end - start) as u64 {
-            return false;
-        }
-        let middle = start + first as usize;
-        self.0.lies_in(start, middle, kept) && self.1.lies_in(middle, end, kept)
+    fn emit<O: Sink>(&self, kept: &[u8], sink: &mut O) -> Result<(), Stop> {
+        O::law();
+        self.1.emit(kept, sink)?;
+        self.0.emit(kept, sink)
     }
 
     fn law() {

@@ -15,9 +15,9 @@ ghost use Rattle.cms_tlv.specs.Reading.{taking};
 ghost use Rattle.cms_fields.specs.Grammar.{already_der};
 
 use crate::field::Field;
+use crate::sink::{Sink, Stop};
 use crate::write::Write;
 use cms_tlv::{Bound, Fault, Input, Source, Span};
-use std::alloc::{AllocError, Global};
 
 /// A field that must already be DER: E15 if it is not. It is written as it was received, octet for
 /// octet.
@@ -36,25 +36,9 @@ impl<T: Write> Write for AlreadyDer<T> {
 
     ghost value = { λ k x. (octets_in k x.span.start x.span.end, T.value k x.field) };
 
-    fn encoded_len(&self, kept: &[u8]) -> u64 {
+    fn emit<S: Sink>(&self, kept: &[u8], sink: &mut S) -> Result<(), Stop> {
         T::law();
-        self.span.octets(kept).len() as u64
-    }
-
-    fn append_with_len(
-        &self,
-        _: u64,
-        alloc: Global,
-        kept: &[u8],
-        out: &mut Vec<u8>,
-    ) -> Result<(), AllocError> {
-        T::law();
-        out.extend_from_slice(self.span.octets(kept))
-    }
-
-    fn lies_in(&self, start: usize, end: usize, _: &[u8]) -> bool {
-        T::law();
-        self.span.start == start && self.span.end == end
+        sink.span(kept, self.span)
     }
 
     fn law() {

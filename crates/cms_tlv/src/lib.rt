@@ -64,4 +64,4 @@ pub use tags::{
 };
 pub use watched::{Buffered, Watched};
 pub use whole::short_length;
-pub use writing::{after_header, header_len, put_header};
+pub use writing::{header_len, header_octets, put_header};

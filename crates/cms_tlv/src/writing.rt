@@ -1,8 +1,8 @@
 //! Identifiers and lengths, written.
-ghost use Rattle.std.specs.Prelude.{◌≡◌, ℕ, ◌+◌, ◌≤◌, List, ◌++◌, drop, length, take, OnOk, OnErr, IfSome};
+ghost use Rattle.std.specs.Prelude.{◌≡◌, ℕ, ◌+◌, ◌≤◌, List, drop, length, OnOk, OnErr};
 ghost use Rattle.cms_tlv.specs.Headers.{IsShortLength};
 ghost use Rattle.cms_tlv.specs.internal.Digits.{AreDigits};
-ghost use Rattle.cms_tlv.specs.Writing.{AppendsHeader};
+ghost use Rattle.cms_tlv.specs.Writing.{AppendsHeader, IsHeader};
 
 use std::alloc::AllocError;
 
@@ -39,51 +39,28 @@ pub fn header_len(n: u64) -> u64
     }
 }
 
+/// The identifier octet `ident` and the shortest length octets of `n` (X.690, 10.1), at the end of an
+/// array, and where they begin.
+pub fn header_octets(ident: u8, n: u64) -> ([u8; 10], usize)
+    ensures header { IsHeader ident n (drop result.1 result.0) }
+    ensures end { result.1 ≤ 8 }
+    ensures len { length result.0 ≡ 10 }
+{
+    if n < 0x80 {
+        return ([0, 0, 0, 0, 0, 0, 0, 0, ident, n as u8], 8);
+    }
+    let (mut octets, start) = digits(n);
+    octets[start - 2] = ident;
+    octets[start - 1] = 0x8a - start as u8;
+    (octets, start - 2)
+}
+
 /// Appends the identifier octet `ident` and the shortest length octets of `n` (X.690, 10.1). On an
 /// error, `out` is as it was.
 pub fn put_header(out: &mut Vec<u8>, ident: u8, n: u64) -> Result<(), AllocError>
     ensures ok { OnOk result (AppendsHeader ident n out.old.items out.new.items) }
     ensures err { OnErr result (out.new.items ≡ out.old.items) }
 {
-    if n < 0x80 {
-        out.extend_from_slice(&[ident, n as u8])
-    } else {
-        let (mut octets, start) = digits(n);
-        octets[start - 2] = ident;
-        octets[start - 1] = 0x8a - start as u8;
-        out.extend_from_slice(&octets[start - 2..])
-    }
-}
-
-/// Where contents begin if `kept` has at `start` the identifier octet `ident` and the shortest length octets of `n`
-/// (X.690, 10.1); nothing if it has other octets there.
-pub fn after_header(kept: &[u8], start: usize, ident: u8, n: u64) -> Option<usize>
-    ensures header { IfSome result (λ at.
-        AppendsHeader ident n (take start kept.now) (take at kept.now)) }
-    ensures within { IfSome result (λ at. at ≤ length kept.now) }
-{
-    if n < 0x80 {
-        after_octets(kept, start, &[ident, n as u8])
-    } else {
-        let (mut octets, first) = digits(n);
-        octets[first - 2] = ident;
-        octets[first - 1] = 0x8a - first as u8;
-        after_octets(kept, start, &octets[first - 2..])
-    }
-}
-
-/// Where `octets` end if `kept` has them at `start`.
-fn after_octets(kept: &[u8], start: usize, octets: &[u8]) -> Option<usize>
-    ensures octets { IfSome result (λ at. take at kept.now ≡ take start kept.now ++ octets.now) }
-    ensures within { IfSome result (λ at. at ≤ length kept.now) }
-{
-    if start > kept.len() || octets.len() > kept.len() - start {
-        return None;
-    }
-    let at = start + octets.len();
-    if &kept[start..at] == octets {
-        Some(at)
-    } else {
-        None
-    }
+    let (octets, start) = header_octets(ident, n);
+    out.extend_from_slice(&octets[start..])
 }

@@ -1,0 +1,149 @@
+-- What a sink is given of a value, put together from what it is given of its parts.
+use Rattle.std.proofs.Common.{◌≡◌, ℕ, suc, ◌+◌, ◌^◌, ◌≤◌, List, [], ◌∷◌, ◌++◌, length, refl, sym, ◌∙◌, ap, subst, arith, ◌↔◌, Bool, true, Option, None, Some}
+use mathlib.Core.Bool.{◌&&◌}
+use Rattle.std.specs.Prelude.{bytes_eq}
+use Rattle.std.specs.Option.{option_eq}
+use Rattle.std.specs.Cmp.{first_so, second_so}
+use Rattle.std.proofs.lemmas.Slice.Eq.{bytes_eq-Decides}
+use Rattle.std.proofs.lemmas.List.{length-append}
+use Rattle.cms_tlv.specs.Headers.{IsShortLength}
+use Rattle.cms_tlv.specs.Frames.{of_short_length}
+use Rattle.cms_tlv.specs.Spelling.{der, Spelling, element, ◌⨟◌, optional}
+use Rattle.cms_tlv.specs.Writing.{IsHeader}
+use Rattle.cms_tlv.proofs.HeaderLaws.{short_length_one}
+use Rattle.cms_fields.specs.Received.{as_received}
+use Rattle.cms_fields.specs.Sinks.{Taking, TakingLaws, IsTooLong, Emits, Overflows}
+use Rattle.cms_fields.specs.Writing.{IsWritten}
+use Rattle.cms_fields.proofs.WriteLaws.{element_written, then_written}
+
+-- what is written for one value is what is written for the other
+module _ {V W : Type 0} {R : Spelling V} {T : Spelling W} {e : V → V → Bool} {f : W → W → Bool} {v : V} {w : W}
+    (alike : (o : List ℕ) → IsWritten R e v o ↔ IsWritten T f w o) where
+  pub alike_emits : {S : Type 0} {t : Taking S} {k : List ℕ} {a b : S} → Emits t R e v k a b → Emits t T f w k a b
+  alike_emits h = record {
+    octets = h.octets;
+    put = h.put;
+    written = (alike h.octets).0 h.written;
+    each = λ o x. h.each o ((alike o).1 x);
+  }
+
+  pub alike_overflows : (n : ℕ) → Overflows R e v n → Overflows T f w n
+  alike_overflows n h o x = h o ((alike o).1 x)
+
+-- the parts of what is written for two fields
+module _ {V W : Type 0} {R : Spelling V} {T : Spelling W} {e : V → V → Bool} {f : W → W → Bool} {v : V} {w : W} {o : List ℕ} where
+  then_parts : IsWritten (R ⨟ T) (λ (x y : V × W). e x.0 y.0 && f x.1 y.1) (v, w) o
+      → (p q : List ℕ) × (length o ≡ length p + length q) × IsWritten R e v p × IsWritten T f w q
+  then_parts h =
+      let r = h.spells in (
+        r.0,
+        r.1,
+        ap length r.2 ∙ length-append r.0 r.1,
+        record { value = h.value.0; spells = r.3; same = first_so (e v h.value.0) (f w h.value.1) h.same },
+        record { value = h.value.1; spells = r.4; same = second_so (e v h.value.0) (f w h.value.1) h.same },
+      )
+
+-- one after another, the later first
+module _ {S V W : Type 0} {t : Taking S} (laws : TakingLaws t) {R : Spelling V} {T : Spelling W} {e : V → V → Bool} {f : W → W → Bool}
+    {v : V} {w : W} {k : List ℕ} {a b : S} (q : Emits t T f w k a b) where
+  pub then_emits : {c : S} → Emits t R e v k b c → Emits t (R ⨟ T) (λ (x y : V × W). e x.0 y.0 && f x.1 y.1) (v, w) k a c
+  then_emits {c = c} p = record {
+    octets = p.octets ++ q.octets;
+    put = laws.both k p.octets q.octets a b c q.put p.put;
+    written = then_written p.written q.written;
+    each = λ o x.
+        let h = then_parts x in
+        let i = p.each h.0 h.3 in
+        let j = q.each h.1 h.4 in
+        let l = length-append p.octets q.octets in
+        omega (arith, h.2);
+  }
+
+  pub then_overflows : Overflows R e v (t.count b) → Overflows (R ⨟ T) (λ (x y : V × W). e x.0 y.0 && f x.1 y.1) (v, w) (t.count a)
+  then_overflows l o x =
+      let h = then_parts x in
+      let m = l h.0 h.3 in
+      let i = q.each h.1 h.4 in
+      let n = laws.counted k q.octets a b q.put in
+      omega (arith, h.2)
+
+pub then_overflows_later : {V W : Type 0} (R : Spelling V) {T : Spelling W} (e : V → V → Bool) {f : W → W → Bool} (v : V)
+    {w : W} (n : ℕ) → Overflows T f w n → Overflows (R ⨟ T) (λ (x y : V × W). e x.0 y.0 && f x.1 y.1) (v, w) n
+then_overflows_later R e v n l o x = let h = then_parts {R = R} {e = e} {v = v} x in let m = l h.1 h.4 in omega (arith, h.2)
+
+-- the contents of what is written for an element
+module _ {V : Type 0} {R : Spelling V} {e : V → V → Bool} {v : V} (id : ℕ) where
+  contents : {o : List ℕ} → IsWritten (element der id R) e v o
+      → (c l : List ℕ) × IsShortLength l (length c) × (length o ≡ 1 + length l + length c) × IsWritten R e v c
+  contents {o} h = go o h.value h.spells h.same
+    where
+      go : (o : List ℕ) (w : V) → element der id R o w → e v w ≡ true
+          → (c l : List ℕ) × IsShortLength l (length c) × (length o ≡ 1 + length l + length c) × IsWritten R e v c
+      go o w (c, of_short_length {l = l} c' p, r) same =
+          (c, l, p, (let m = length-append l c in omega arith), record { value = w; spells = r; same = same })
+
+  pub element_overflows_inside : (n : ℕ) → Overflows R e v n → Overflows (element der id R) e v n
+  element_overflows_inside n l o x = let h = contents x in let m = l h.0 h.4 in omega (arith, h.3)
+
+  module _ {S : Type 0} {t : Taking S} (laws : TakingLaws t) {k : List ℕ} {a b : S} (p : Emits t R e v k a b) (n : ℕ) (i : n ≡ length p.octets) where
+    pub element_emits : {c : S} → (h : List ℕ) × IsHeader id n h × t.puts k b h c → Emits t (element der id R) e v k a c
+    element_emits {c = c} q =
+        let l = q.1.0 in
+        let s : IsShortLength l (length p.octets) = subst (IsShortLength l) i q.1.1 in
+        let m : length q.0 ≡ suc (length l) = ap length q.1.2 in record {
+          octets = q.0 ++ p.octets;
+          put = laws.both k q.0 p.octets a b c p.put q.2;
+          written = subst (λ z. IsWritten (element der id R) e v (z ++ p.octets)) (sym q.1.2) (element_written id s p.written);
+          each = λ o x.
+              let h = contents x in
+              let f = p.each h.0 h.4 in
+              let g : length h.1 ≡ length l = ap length (short_length_one h.1 l (length p.octets) (subst (IsShortLength h.1) f h.2) s) in
+              let j = length-append q.0 p.octets in
+              omega (arith, h.3);
+        }
+
+    pub element_overflows : ((h : List ℕ) → IsHeader id n h → IsTooLong (t.count b) (length h)) → Overflows (element der id R) e v (t.count a)
+    element_overflows q o x =
+        let h = contents x in
+        let f = p.each h.0 h.4 in
+        let s : IsShortLength h.1 n = subst (IsShortLength h.1) (f ∙ sym i) h.2 in
+        let m = q (id ∷ h.1) (h.1, s, refl) in
+        let j = laws.counted k p.octets a b p.put in
+        omega (arith, h.3)
+
+module _ {V : Type 0} {R : Spelling V} {e : V → V → Bool} {v : V} where
+  pub some_alike : (o : List ℕ) → IsWritten R e v o ↔ IsWritten (optional R) (option_eq e) (Some v) o
+  some_alike o = (λ h. record { value = Some h.value; spells = h.spells; same = h.same }, λ h. go h.value h.spells h.same)
+    where
+      go : (x : Option V) → optional R o x → option_eq e (Some v) x ≡ true → IsWritten R e v o
+      go None r s = absurd (cc)
+      go (Some u) r s = record { value = u; spells = r; same = s }
+
+pub none_emits : {S V : Type 0} {t : Taking S} (laws : TakingLaws t) (R : Spelling V) (e : V → V → Bool) (k : List ℕ) (a : S)
+    → Emits t (optional R) (option_eq e) None k a a
+none_emits {V = V} laws R e k a = record {
+  octets = [];
+  put = laws.nothing k a;
+  written = record { value = None; spells = refl; same = refl };
+  each = λ o x. go o x.value x.spells x.same;
+}
+  where
+    go : (o : List ℕ) (x : Option V) → optional R o x → option_eq e None x ≡ true → length o ≡ 0
+    go o None r s = ap length r
+    go o (Some u) r s = absurd (cc)
+
+-- octets that spell themselves
+module _ (P : List ℕ → Type 0) {v : List ℕ} where
+  itself : (o : List ℕ) → IsWritten (as_received P) bytes_eq v o → o ≡ v
+  itself o h = h.spells.0 ∙ sym ((bytes_eq-Decides v h.value).0 h.same)
+
+  pub received_emits : {S : Type 0} {t : Taking S} {k : List ℕ} {a b : S} → P v → t.puts k a v b → Emits t (as_received P) bytes_eq v k a b
+  received_emits p q = record {
+    octets = v;
+    put = q;
+    written = record { value = v; spells = (refl, p); same = (bytes_eq-Decides v v).1 refl };
+    each = λ o x. ap length (itself o x);
+  }
+
+  pub received_overflows : (n : ℕ) → IsTooLong n (length v) → Overflows (as_received P) bytes_eq v n
+  received_overflows n l o x = subst (λ z. IsTooLong n (length z)) (sym (itself o x)) l

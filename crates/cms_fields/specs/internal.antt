@@ -1,2 +1,0 @@
--- Definitions of this crate alone: no public contract cites them.
-pub mod Pouring
