@@ -1,8 +1,5 @@
-use Rattle.std.proofs.Common.{◌≡◌, ◌<◌, ◌++◌, ℕ, List, length, take, drop, true, false, sym, ◌∙◌, subst, refl, rules, arith}
+use Rattle.std.proofs.Common.{◌≡◌, ◌<◌, length, true, false, sym, ◌∙◌, subst, refl, rules, arith}
 use Rattle.std.proofs.lemmas.Bool.Decides.{nat_tests}
-use Rattle.std.specs.List.{AllByRecursion}
-use Rattle.cms_tlv.specs.Frames.{IsDerFrame}
-use Rattle.cms_tlv.specs.Spelling.{join}
 use Rattle.cms_setof.proofs.FirstFrameLaws.{from_on}
 use Rattle.cms_setof.proofs.CheckingLaws.{Checked, first_checked, next_checked, not_ascending, all_checked}
 use Rattle.cms_setof.proofs.ascending.frames_ascend.Goals as goal

@@ -1,8 +1,7 @@
-use Rattle.std.proofs.Common.{◌≡◌, ◌<◌, ◌≤◌, ◌+◌, ◌++◌, ℕ, List, length, drop, ◌∙◌, ap, arith}
+use Rattle.std.proofs.Common.{◌<◌, ◌≤◌, ◌+◌, length, ◌∙◌, ap, arith}
 use Rattle.std.proofs.lemmas.List.{length-drop}
-use Rattle.cms_tlv.specs.Frames.{IsDerFrame}
 use Rattle.cms_setof.proofs.FirstFrameLaws.{from_on}
-use Rattle.cms_setof.proofs.PassingLaws.{one_passed, some_left, none_passed, all_counted}
+use Rattle.cms_setof.proofs.PassingLaws.{one_passed, some_left, all_counted}
 use Rattle.cms_setof.proofs.frames.frame_count.Goals as goal
 
 pub loop-end-preserved : goal.loop-end-preserved
