@@ -12,7 +12,7 @@ use Rattle.cms_tlv.specs.Spelling.{der, Spelling, element, ◌⨟◌, optional}
 use Rattle.cms_tlv.specs.Writing.{IsHeader}
 use Rattle.cms_tlv.proofs.HeaderLaws.{short_length_one}
 use Rattle.cms_fields.specs.Received.{as_received}
-use Rattle.cms_fields.specs.Sinks.{Taking, TakingLaws, IsTooLong, Emits, Overflows}
+use Rattle.cms_fields.specs.Sinks.{Taking, TakingLaws, Emits, StopsAt}
 use Rattle.cms_fields.specs.Writing.{IsWritten}
 use Rattle.cms_fields.proofs.WriteLaws.{element_written, then_written}
 
@@ -27,8 +27,8 @@ module _ {V W : Type 0} {R : Spelling V} {T : Spelling W} {e : V → V → Bool}
     each = λ o x. h.each o ((alike o).1 x);
   }
 
-  pub alike_overflows : (n : ℕ) → Overflows R e v n → Overflows T f w n
-  alike_overflows n h o x = h o ((alike o).1 x)
+  pub alike_stops : {S : Type 0} (t : Taking S) (n : ℕ) → StopsAt t R e v n → StopsAt t T f w n
+  alike_stops t n h o x = h o ((alike o).1 x)
 
 -- the parts of what is written for two fields
 module _ {V W : Type 0} {R : Spelling V} {T : Spelling W} {e : V → V → Bool} {f : W → W → Bool} {v : V} {w : W} {o : List ℕ} where
@@ -59,17 +59,18 @@ module _ {S V W : Type 0} {t : Taking S} (laws : TakingLaws t) {R : Spelling V} 
         omega (arith, h.2);
   }
 
-  pub then_overflows : Overflows R e v (t.count b) → Overflows (R ⨟ T) (λ (x y : V × W). e x.0 y.0 && f x.1 y.1) (v, w) (t.count a)
-  then_overflows l o x =
+  pub then_stops : StopsAt t R e v (t.count b) → StopsAt t (R ⨟ T) (λ (x y : V × W). e x.0 y.0 && f x.1 y.1) (v, w) (t.count a)
+  then_stops l o x =
       let h = then_parts x in
-      let m = l h.0 h.3 in
       let i = q.each h.1 h.4 in
       let n = laws.counted k q.octets a b q.put in
-      omega (arith, h.2)
+      laws.longer (t.count b + length h.0) (t.count a + length o) (l h.0 h.3) (omega (arith, h.2))
 
-pub then_overflows_later : {V W : Type 0} (R : Spelling V) {T : Spelling W} (e : V → V → Bool) {f : W → W → Bool} (v : V)
-    {w : W} (n : ℕ) → Overflows T f w n → Overflows (R ⨟ T) (λ (x y : V × W). e x.0 y.0 && f x.1 y.1) (v, w) n
-then_overflows_later R e v n l o x = let h = then_parts {R = R} {e = e} {v = v} x in let m = l h.1 h.4 in omega (arith, h.2)
+pub then_stops_later : {S V W : Type 0} {t : Taking S} (laws : TakingLaws t) (R : Spelling V) {T : Spelling W} (e : V → V → Bool)
+    {f : W → W → Bool} (v : V) {w : W} (n : ℕ) → StopsAt t T f w n → StopsAt t (R ⨟ T) (λ (x y : V × W). e x.0 y.0 && f x.1 y.1) (v, w) n
+then_stops_later laws R e v n l o x =
+    let h = then_parts {R = R} {e = e} {v = v} x in
+    laws.longer (n + length h.1) (n + length o) (l h.1 h.4) (omega (arith, h.2))
 
 -- the contents of what is written for an element
 module _ {V : Type 0} {R : Spelling V} {e : V → V → Bool} {v : V} (id : ℕ) where
@@ -82,8 +83,10 @@ module _ {V : Type 0} {R : Spelling V} {e : V → V → Bool} {v : V} (id : ℕ)
       go o w (c, of_short_length {l = l} c' p, r) same =
           (c, l, p, (let m = length-append l c in omega arith), record { value = w; spells = r; same = same })
 
-  pub element_overflows_inside : (n : ℕ) → Overflows R e v n → Overflows (element der id R) e v n
-  element_overflows_inside n l o x = let h = contents x in let m = l h.0 h.4 in omega (arith, h.3)
+  pub element_stops_inside : {S : Type 0} {t : Taking S} (laws : TakingLaws t) (n : ℕ) → StopsAt t R e v n → StopsAt t (element der id R) e v n
+  element_stops_inside laws n l o x =
+      let h = contents x in
+      laws.longer (n + length h.0) (n + length o) (l h.0 h.4) (omega (arith, h.3))
 
   module _ {S : Type 0} {t : Taking S} (laws : TakingLaws t) {k : List ℕ} {a b : S} (p : Emits t R e v k a b) (n : ℕ) (i : n ≡ length p.octets) where
     pub element_emits : {c : S} → (h : List ℕ) × IsHeader id n h × t.puts k b h c → Emits t (element der id R) e v k a c
@@ -102,14 +105,13 @@ module _ {V : Type 0} {R : Spelling V} {e : V → V → Bool} {v : V} (id : ℕ)
               omega (arith, h.3);
         }
 
-    pub element_overflows : ((h : List ℕ) → IsHeader id n h → IsTooLong (t.count b) (length h)) → Overflows (element der id R) e v (t.count a)
-    element_overflows q o x =
+    pub element_stops : ((h : List ℕ) → IsHeader id n h → t.stops (t.count b + length h)) → StopsAt t (element der id R) e v (t.count a)
+    element_stops q o x =
         let h = contents x in
         let f = p.each h.0 h.4 in
         let s : IsShortLength h.1 n = subst (IsShortLength h.1) (f ∙ sym i) h.2 in
-        let m = q (id ∷ h.1) (h.1, s, refl) in
         let j = laws.counted k p.octets a b p.put in
-        omega (arith, h.3)
+        laws.longer (t.count b + length (id ∷ h.1)) (t.count a + length o) (q (id ∷ h.1) (h.1, s, refl)) (omega (arith, h.3))
 
 module _ {V : Type 0} {R : Spelling V} {e : V → V → Bool} {v : V} where
   pub some_alike : (o : List ℕ) → IsWritten R e v o ↔ IsWritten (optional R) (option_eq e) (Some v) o
@@ -145,5 +147,5 @@ module _ (P : List ℕ → Type 0) {v : List ℕ} where
     each = λ o x. ap length (itself o x);
   }
 
-  pub received_overflows : (n : ℕ) → IsTooLong n (length v) → Overflows (as_received P) bytes_eq v n
-  received_overflows n l o x = subst (λ z. IsTooLong n (length z)) (sym (itself o x)) l
+  pub received_stops : {S : Type 0} (t : Taking S) (n : ℕ) → t.stops (n + length v) → StopsAt t (as_received P) bytes_eq v n
+  received_stops t n l o x = subst (λ z. t.stops (n + length z)) (sym (itself o x)) l

@@ -1,5 +1,5 @@
 -- What sinks take: octets, each before those that they took already.
-use Rattle.std.specs.Prelude.{◌≡◌, ◌≤◌, ℕ, ◌+◌, ◌^◌, List, [], ◌++◌, length, Bool}
+use Rattle.std.specs.Prelude.{◌≡◌, ◌≤◌, ℕ, ◌+◌, List, [], ◌++◌, length, Bool}
 use Rattle.std.specs.List.Sorted.{IsPermutation}
 use Rattle.cms_tlv.specs.Order.{Ascends}
 use Rattle.cms_tlv.specs.Spelling.{Spelling, join}
@@ -12,17 +12,16 @@ pub record Taking (S : Type 0) : Type 1 where
   pub puts : List ℕ → S → List ℕ → S → Type 0
   --- `count s`: how many octets it took
   pub count : S → ℕ
+  --- `stops n`: it may stop if it is to have taken `n` octets
+  pub stops : ℕ → Type 0
 
 --- `TakingLaws t`: to put no octets changes nothing; octets after one another are put as one list, the
----   later before the earlier; and they are counted
+---   later before the earlier; they are counted; and a sink that may stop at `n` octets may at more
 pub record TakingLaws {S : Type 0} (t : Taking S) : Type 0 where
   pub nothing : (k : List ℕ) (s : S) → t.puts k s [] s
   pub both : (k p q : List ℕ) (a b c : S) → t.puts k a q b → t.puts k b p c → t.puts k a (p ++ q) c
   pub counted : (k q : List ℕ) (a b : S) → t.puts k a q b → t.count b ≡ t.count a + length q
-
---- `IsTooLong n m`: `n` octets and `m` more are 2^64 or more
-abbrev pub IsTooLong : ℕ → ℕ → Type 0
-IsTooLong n m = 2 ^ 64 ≤ n + m
+  pub longer : (n m : ℕ) → t.stops n → n ≤ m → t.stops m
 
 --- `Emits t R same v k a b`: octets with `IsWritten R same v` were put, from `a` to `b`, and each list
 ---   with that has as many
@@ -33,9 +32,9 @@ pub record Emits {V S : Type 0} (t : Taking S) (R : Spelling V) (is_same : V →
   pub written : IsWritten R is_same v octets
   pub each : (o : List ℕ) → IsWritten R is_same v o → length o ≡ length octets
 
---- `Overflows R same v n`: `n` octets and each list with `IsWritten R same v` are 2^64 or more
-abbrev pub Overflows : {V : Type 0} → Spelling V → (V → V → Bool) → V → ℕ → Type 0
-Overflows R is_same v n = (o : List ℕ) → IsWritten R is_same v o → IsTooLong n (length o)
+--- `StopsAt t R same v n`: with each list with `IsWritten R same v` after `n` octets, it may stop
+abbrev pub StopsAt : {V S : Type 0} → Taking S → Spelling V → (V → V → Bool) → V → ℕ → Type 0
+StopsAt t R is_same v n = (o : List ℕ) → IsWritten R is_same v o → t.stops (n + length o)
 
 --- `Sorts t k s frames u`: `frames` were put, in ascending order, from `s` to `u` [X.690, 11.6]
 pub record Sorts {S : Type 0} (t : Taking S) (k : List ℕ) (a : S) (frames : List (List ℕ)) (b : S)

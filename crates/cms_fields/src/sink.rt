@@ -3,35 +3,27 @@
 //! A header is taken after its contents, so its length is what was taken since: no length is passed
 //! down, counted again or kept. From the first octet to the last, a sink that counts would have no
 //! length to give to a header, and each level would count what is in it again.
-ghost use Rattle.std.specs.Prelude.{◌≡◌, ℕ, List, length, IfErr, OnOk};
+ghost use Rattle.std.specs.Prelude.{◌+◌, ℕ, List, length, OnErr, OnOk};
 ghost use Rattle.cms_tlv.specs.Spans.{borrowed_spans};
 ghost use Rattle.cms_tlv.specs.Spelling.{join};
 ghost use Rattle.cms_tlv.specs.Writing.{IsHeader};
 ghost use Rattle.cms_fields.specs.Received.{spanned_in};
-ghost use Rattle.cms_fields.specs.Sinks.{IsTooLong};
 
 use cms_tlv::{BorrowedSpans, Span, header_octets};
 
-/// Why a sink takes no more.
+/// A sink takes no more.
 #[derive(Clone, Copy, Debug, PartialEq, Eq)]
-pub enum Stop {
-    /// It would have 2^64 octets or more.
-    TooLong,
-    /// It compares, and other octets are there.
-    Different,
-    /// Out of memory.
-    OutOfMemory,
-}
+pub struct Stop;
 
 /// What takes octets, each before those that it took already. After an error it is in no known state.
 pub trait Sink {
-    ghost use Rattle.std.specs.Prelude.{◌≡◌, ◌≢◌, ℕ, List, length, IfErr, OnOk};
+    ghost use Rattle.std.specs.Prelude.{◌≡◌, ◌+◌, ℕ, List, length, OnErr, OnOk};
     ghost use Rattle.std.specs.List.{AllByRecursion};
     ghost use Rattle.cms_tlv.specs.Frames.{IsDerFrame};
     ghost use Rattle.cms_tlv.specs.Spans.{octets_in, borrowed_spans};
     ghost use Rattle.cms_tlv.specs.Spelling.{join};
     ghost use Rattle.cms_fields.specs.Received.{spanned_in};
-    ghost use Rattle.cms_fields.specs.Sinks.{Taking, TakingLaws, IsTooLong, Sorts};
+    ghost use Rattle.cms_fields.specs.Sinks.{Taking, TakingLaws, Sorts};
 
     // What it takes, and how many octets.
     ghost taking: { Taking Self };
@@ -43,22 +35,19 @@ pub trait Sink {
     /// Takes octets.
     fn octets(&mut self, kept: &[u8], octets: &[u8]) -> Result<(), Stop>
         ensures ok { OnOk result (taking.puts kept.now self.old octets.now self.new) }
-        ensures long { IfErr result (λ e. e ≡ Stop.TooLong
-            → IsTooLong (taking.count self.old) (length octets.now)) };
+        ensures stops { OnErr result (taking.stops (taking.count self.old + length octets.now)) };
 
     /// Takes the octets of `kept` that a span names.
     fn span(&mut self, kept: &[u8], span: Span) -> Result<(), Stop>
         ensures ok { OnOk result (taking.puts kept.now self.old
             (octets_in kept.now span.start span.end) self.new) }
-        ensures long { IfErr result (λ e. e ≡ Stop.TooLong
-            → IsTooLong (taking.count self.old) (length (octets_in kept.now span.start span.end))) };
+        ensures stops { OnErr result (taking.stops (taking.count self.old + length (octets_in kept.now span.start span.end))) };
 
     /// Takes the octets of `kept` that spans name, one after another.
     fn spans(&mut self, kept: &[u8], spans: BorrowedSpans<'_>) -> Result<(), Stop>
         ensures ok { OnOk result (taking.puts kept.now self.old
             (join (spanned_in kept.now (borrowed_spans spans.entry))) self.new) }
-        ensures long { IfErr result (λ e. e ≡ Stop.TooLong → IsTooLong (taking.count self.old)
-            (length (join (spanned_in kept.now (borrowed_spans spans.entry))))) };
+        ensures stops { OnErr result (taking.stops (taking.count self.old + length (join (spanned_in kept.now (borrowed_spans spans.entry))))) };
 
     /// Puts into ascending order the elements that it took since it had taken `from` octets (X.690,
     /// 11.6).
@@ -66,7 +55,7 @@ pub trait Sink {
         ensures ok { OnOk result ((s : Self) (frames : List (List ℕ)) → taking.count s ≡ from
             → AllByRecursion IsDerFrame frames → taking.puts kept.now s (join frames) self.old
             → Sorts taking kept.now s frames self.new) }
-        ensures long { IfErr result (λ e. e ≢ Stop.TooLong) };
+        ensures stops { OnErr result (taking.stops (taking.count self.old)) };
 
     /// Does nothing. Its contract says that it takes octets one after another, and counts them.
     fn law()
@@ -81,8 +70,7 @@ pub fn take_each<S: Sink>(
 ) -> Result<(), Stop>
     ensures ok { OnOk result (S.taking.puts kept.now sink.old
         (join (spanned_in kept.now (borrowed_spans spans.entry))) sink.new) }
-    ensures long { IfErr result (λ e. e ≡ Stop.TooLong → IsTooLong (S.taking.count sink.old)
-        (length (join (spanned_in kept.now (borrowed_spans spans.entry))))) }
+    ensures stops { OnErr result (S.taking.stops (S.taking.count sink.old + length (join (spanned_in kept.now (borrowed_spans spans.entry))))) }
 {
     S::law();
     let mut left = spans.len();
@@ -100,8 +88,8 @@ pub fn take_each<S: Sink>(
 pub(crate) fn emit_header<S: Sink>(ident: u8, n: u64, kept: &[u8], sink: &mut S) -> Result<(), Stop>
     ensures ok { OnOk result ((b : List ℕ) × IsHeader ident n b
         × S.taking.puts kept.now sink.old b sink.new) }
-    ensures long { IfErr result (λ e. e ≡ Stop.TooLong
-        → (b : List ℕ) → IsHeader ident n b → IsTooLong (S.taking.count sink.old) (length b)) }
+    ensures stops { OnErr result ((b : List ℕ) → IsHeader ident n b
+        → S.taking.stops (S.taking.count sink.old + length b)) }
 {
     let (octets, start) = header_octets(ident, n);
     sink.octets(kept, &octets[start..])

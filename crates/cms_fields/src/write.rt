@@ -5,18 +5,18 @@
 //!
 //! The law of a part is a method of `Write`, and not a trait of its own: the kit passes a call one
 //! dictionary for each bound, and their number would grow with the square of a record's depth.
-ghost use Rattle.std.specs.Prelude.{◌≡◌, IfErr, OnOk};
+ghost use Rattle.std.specs.Prelude.{OnErr, OnOk};
 ghost use Rattle.cms_tlv.specs.Spelling.{element, der};
-ghost use Rattle.cms_fields.specs.Sinks.{Emits, Overflows};
+ghost use Rattle.cms_fields.specs.Sinks.{Emits, StopsAt};
 
 use crate::sink::{Sink, Stop, emit_header};
 
 /// A value that is written in DER from octets that are kept elsewhere.
 pub trait Write {
-    ghost use Rattle.std.specs.Prelude.{◌≡◌, ℕ, List, IfErr, OnOk};
+    ghost use Rattle.std.specs.Prelude.{ℕ, List, OnErr, OnOk};
     ghost use Rattle.cms_tlv.specs.Spelling.{der};
     ghost use Rattle.cms_fields.specs.Grammar.{Grammar, IsLawful};
-    ghost use Rattle.cms_fields.specs.Sinks.{Emits, Overflows};
+    ghost use Rattle.cms_fields.specs.Sinks.{Emits, StopsAt};
 
     // The value that it stands for.
     ghost Value: { Type 0 };
@@ -32,8 +32,7 @@ pub trait Write {
         requires { grammar.is_value (value kept.now self.now) }
         ensures ok { OnOk result (Emits S.taking (grammar.spelled der) grammar.same
             (value kept.now self.now) kept.now sink.old sink.new) }
-        ensures long { IfErr result (λ e. e ≡ Stop.TooLong
-            → Overflows (grammar.spelled der) grammar.same
+        ensures stops { OnErr result (StopsAt S.taking (grammar.spelled der) grammar.same
             (value kept.now self.now) (S.taking.count sink.old)) };
 
     /// Does nothing. Its contract says of a field: it is read if and only if it is spelled; a spelling
@@ -54,9 +53,8 @@ pub fn emit_element<T: Write, S: Sink>(
     requires { T.grammar.is_value (T.value kept.now contents.now) }
     ensures ok { OnOk result (Emits S.taking (element der ident (T.grammar.spelled der))
         T.grammar.same (T.value kept.now contents.now) kept.now sink.old sink.new) }
-    ensures long { IfErr result (λ e. e ≡ Stop.TooLong
-        → Overflows (element der ident (T.grammar.spelled der)) T.grammar.same
-        (T.value kept.now contents.now) (S.taking.count sink.old)) }
+    ensures stops { OnErr result (StopsAt S.taking (element der ident (T.grammar.spelled der))
+        T.grammar.same (T.value kept.now contents.now) (S.taking.count sink.old)) }
 {
     S::law();
     let before = sink.count();

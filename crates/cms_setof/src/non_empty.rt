@@ -3,9 +3,8 @@ ghost use Rattle.std.specs.Prelude.{List, map};
 ghost use Rattle.cms_setof.specs.Grammar.{some_of};
 
 use crate::set::SetOf;
-use cms_fields::{Field, Fields, Write};
+use cms_fields::{Field, Fields, Sink, Stop, Write};
 use cms_tlv::{Bound, Fault, Input, Reason, Source};
-use std::alloc::{AllocError, Global};
 
 /// A set with at least one member, as in `SET SIZE (1..MAX) OF`: E16 after its end if it has none.
 #[derive(Drop)]
@@ -18,25 +17,9 @@ impl<T: Write> Write for NonEmptySetOf<T> {
 
     ghost value = { λ k x. map (T.value k) x.0 };
 
-    fn encoded_len(&self, kept: &[u8]) -> u64 {
+    fn emit<S: Sink>(&self, kept: &[u8], sink: &mut S) -> Result<(), Stop> {
         T::law();
-        self.0.encoded_len(kept)
-    }
-
-    fn append_with_len(
-        &self,
-        n: u64,
-        alloc: Global,
-        kept: &[u8],
-        out: &mut Vec<u8>,
-    ) -> Result<(), AllocError> {
-        T::law();
-        self.0.append_with_len(n, alloc, kept, out)
-    }
-
-    fn lies_in(&self, start: usize, end: usize, kept: &[u8]) -> bool {
-        T::law();
-        self.0.lies_in(start, end, kept)
+        self.0.emit(kept, sink)
     }
 
     fn law() {

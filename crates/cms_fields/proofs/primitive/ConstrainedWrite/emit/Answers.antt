@@ -1,5 +1,5 @@
-use Rattle.std.proofs.lemmas.Result.{on_ok_weaker, IfErr-weaker}
-use Rattle.cms_fields.proofs.EmitLaws.{alike_emits, alike_overflows}
+use Rattle.std.proofs.lemmas.Result.{on_ok_weaker, on_err_weaker}
+use Rattle.cms_fields.proofs.EmitLaws.{alike_emits, alike_stops}
 use Rattle.cms_fields.proofs.ReaderLaws.{where_alike, keeps_octets}
 use Rattle.cms_fields.proofs.primitive.ConstrainedWrite.emit.Goals as goal
 
@@ -7,7 +7,8 @@ pub returns-clause-ok : goal.returns-clause-ok
 returns-clause-ok g c =
     on_ok_weaker c.emit.result (alike_emits (where_alike g.C.Constraint.is _ (keeps_octets g.C.Constraint.is _ c.requires.1))) c.emit.ensures.ok
 
-pub returns-clause-long : goal.returns-clause-long
-returns-clause-long g c =
-    IfErr-weaker c.emit.result _ _ (λ x h s. alike_overflows (where_alike g.C.Constraint.is _
-    (keeps_octets g.C.Constraint.is _ c.requires.1)) _ (h s)) c.emit.ensures.long
+pub returns-clause-stops : goal.returns-clause-stops
+returns-clause-stops g c =
+    on_err_weaker c.emit.result (alike_stops (where_alike g.C.Constraint.is _ (keeps_octets g.C.Constraint.is _ c.requires.1))
+    g.S.Sink.taking (g.S.Sink.taking.count c.args.sink.now))
+    c.emit.ensures.stops

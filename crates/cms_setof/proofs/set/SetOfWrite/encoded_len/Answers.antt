@@ -1,6 +1,0 @@
-use Rattle.std.proofs.Common.{rules}
-use Rattle.cms_setof.proofs.MemberLaws.{all_shown}
-use Rattle.cms_setof.proofs.set.SetOfWrite.encoded_len.Goals as goal
-
-pub row_len-requires-clause-are_values : goal.row_len-requires-clause-are_values
-row_len-requires-clause-are_values g c = (let h = all_shown (g.T.Write.value c.args.kept.now) g.T.Write.grammar.is_value _ c.requires.1 in search rules)
