@@ -10,14 +10,21 @@ ghost use Rattle.cms_tlv.specs.Writing.{IsHeader};
 ghost use Rattle.cms_fields.specs.Received.{spanned_in};
 
 use cms_tlv::{BorrowedSpans, Span, header_octets};
+use std::alloc::AllocError;
 
 /// A sink takes no more.
 #[derive(Clone, Copy, Debug, PartialEq, Eq)]
 pub struct Stop;
 
+impl From<AllocError> for Stop {
+    fn from(_: AllocError) -> Stop {
+        Stop
+    }
+}
+
 /// What takes octets, each before those that it took already. After an error it is in no known state.
 pub trait Sink {
-    ghost use Rattle.std.specs.Prelude.{◌≡◌, ◌+◌, ℕ, List, length, OnErr, OnOk};
+    ghost use Rattle.std.specs.Prelude.{◌≡◌, ◌+◌, ℕ, List, length, true, false, IfOk, OnErr, OnOk};
     ghost use Rattle.std.specs.List.{AllByRecursion};
     ghost use Rattle.cms_tlv.specs.Frames.{IsDerFrame};
     ghost use Rattle.cms_tlv.specs.Spans.{octets_in, borrowed_spans};
@@ -43,11 +50,14 @@ pub trait Sink {
             (octets_in kept.now span.start span.end) self.new) }
         ensures stops { OnErr result (taking.stops (taking.count self.old + length (octets_in kept.now span.start span.end))) };
 
-    /// Takes the octets of `kept` that spans name, one after another.
-    fn spans(&mut self, kept: &[u8], spans: BorrowedSpans<'_>) -> Result<(), Stop>
-        ensures ok { OnOk result (taking.puts kept.now self.old
+    /// Takes the octets of `kept` that spans name, one after another, if it takes them at once. Returns
+    /// whether it did.
+    fn spans_at_once(&mut self, kept: &[u8], spans: BorrowedSpans<'_>) -> Result<bool, Stop>
+        ensures taken { IfOk result (λ taken. taken ≡ true → taking.puts kept.now self.old
             (join (spanned_in kept.now (borrowed_spans spans.entry))) self.new) }
-        ensures stops { OnErr result (taking.stops (taking.count self.old + length (join (spanned_in kept.now (borrowed_spans spans.entry))))) };
+        ensures left { IfOk result (λ taken. taken ≡ false → self.new ≡ self.old) }
+        ensures stops { OnErr result (taking.stops (taking.count self.old
+            + length (join (spanned_in kept.now (borrowed_spans spans.entry))))) };
 
     /// Puts into ascending order the elements that it took since it had taken `from` octets (X.690,
     /// 11.6).
@@ -62,15 +72,25 @@ pub trait Sink {
         ensures { TakingLaws taking };
 }
 
-/// Takes the octets of `kept` that spans name, each span by itself.
-pub fn take_each<S: Sink>(
-    sink: &mut S,
-    kept: &[u8],
-    spans: BorrowedSpans<'_>,
-) -> Result<(), Stop>
+/// Gives a sink the octets of `kept` that spans name, one after another.
+pub fn emit_spans<S: Sink>(spans: BorrowedSpans<'_>, kept: &[u8], sink: &mut S) -> Result<(), Stop>
     ensures ok { OnOk result (S.taking.puts kept.now sink.old
         (join (spanned_in kept.now (borrowed_spans spans.entry))) sink.new) }
-    ensures stops { OnErr result (S.taking.stops (S.taking.count sink.old + length (join (spanned_in kept.now (borrowed_spans spans.entry))))) }
+    ensures stops { OnErr result (S.taking.stops (S.taking.count sink.old
+        + length (join (spanned_in kept.now (borrowed_spans spans.entry))))) }
+{
+    if sink.spans_at_once(kept, spans)? {
+        return Ok(());
+    }
+    emit_each(spans, kept, sink)
+}
+
+/// Gives a sink the octets of `kept` that spans name, each span by itself.
+fn emit_each<S: Sink>(spans: BorrowedSpans<'_>, kept: &[u8], sink: &mut S) -> Result<(), Stop>
+    ensures ok { OnOk result (S.taking.puts kept.now sink.old
+        (join (spanned_in kept.now (borrowed_spans spans.entry))) sink.new) }
+    ensures stops { OnErr result (S.taking.stops (S.taking.count sink.old
+        + length (join (spanned_in kept.now (borrowed_spans spans.entry))))) }
 {
     S::law();
     let mut left = spans.len();

@@ -6,8 +6,8 @@ use Rattle.std.proofs.KnownBytes.{Appends-trans}
 use Rattle.cms_tlv.specs.declared.fault.Fault.{Fault}
 use Rattle.cms_tlv.specs.declared.fault.Fault.TheVariants as faults
 use Rattle.cms_tlv.specs.Pouring.{StopsAfter}
-use Rattle.cms_fields.specs.declared.pouring.Progress.{Progress}
-use Rattle.cms_fields.specs.internal.Pouring.{Sends, StopsAmid, PutAfter}
+use Rattle.cms_setof.specs.declared.pouring.Progress.{Progress}
+use Rattle.cms_setof.specs.internal.Pouring.{Sends, StopsAmid, PutAfter}
 
 -- two facts of one result
 on_ok_both : {T E P Q S : Type 0} (r : Result T E) → (P → Q → S) → OnOk r P → OnOk r Q → OnOk r S

@@ -24,11 +24,11 @@ use Rattle.cms_setof.proofs.MergeLaws.{der_frame, never_after, begins_with}
 pub sorted_already : (bs : List (List ℕ)) (octets : List ℕ) → octets ≡ join bs → Ascends bs → AreSorted bs octets
 sorted_already bs octets e a = record { frames = bs; joined = e; permutation = IsPermutation-refl bs; ascends = a }
 
-der_still : (bs cs : List (List ℕ)) → IsPermutation bs cs → AllByRecursion IsDerFrame bs → AllByRecursion IsDerFrame cs
+pub der_still : (bs cs : List (List ℕ)) → IsPermutation bs cs → AllByRecursion IsDerFrame bs → AllByRecursion IsDerFrame cs
 der_still bs cs m p = recursion_from_All IsDerFrame cs (All-permutation IsDerFrame bs cs m (All-from_recursion IsDerFrame bs p))
 
 -- what is sorted has as many octets
-same_length : (bs cs : List (List ℕ)) → IsPermutation bs cs → length (join cs) ≡ length (join bs)
+pub same_length : (bs cs : List (List ℕ)) → IsPermutation bs cs → length (join cs) ≡ length (join bs)
 same_length bs cs m = length-flat_map (λ b. b) cs ∙ (sum_by-IsPermutation (λ b. length b) bs cs m ∙ sym (length-flat_map (λ b. b) bs))
 
 not_after : (b c : List ℕ) → Frame b → Frame c → is_lt (slice_cmp nat_cmp c b) ≡ false → ComesAfter b c → ⊥
@@ -42,7 +42,7 @@ module _ {X : Type 0} (octets : X → List ℕ) where
   next_sorted x y xs h i d l m = let e : suc i + 1 ≡ suc (i + 1) = omega arith in let g = h (suc i) d (omega arith) (omega arith) in (rw e at g)
 
   -- frames that are sorted by std's order ascend
-  sorted_ascend : (xs : List X) → AllByRecursion IsDerFrame (map octets xs)
+  pub sorted_ascend : (xs : List X) → AllByRecursion IsDerFrame (map octets xs)
       → IsSortedBy (λ a b. is_lt (slice_cmp nat_cmp (octets a) (octets b))) xs → Ascends (map octets xs)
   sorted_ascend [] p h = tt
   sorted_ascend (x ∷ []) p h = tt

@@ -2,7 +2,7 @@
 ghost use Rattle.std.specs.Prelude.{◌≡◌, ◌+◌, ◌++◌, length, take};
 
 use crate::ascending::frames_ascend;
-use cms_fields::{Sink, Stop, take_each};
+use cms_fields::{Sink, Stop};
 use cms_tlv::{BorrowedSpans, Span};
 
 /// Compares what it takes with the kept octets, backwards from a place, and stops if they differ. Kept
@@ -15,13 +15,11 @@ pub(crate) struct Comparing {
 }
 
 impl Comparing {
-    ghost use Rattle.std.specs.Prelude.{◌≡◌, ◌+◌, ◌<◌, ◌≤◌, ◌^◌, length, IfErr, OnOk};
-    ghost use Rattle.cms_fields.specs.declared.sink.Stop.TheVariants.{TooLong};
+    ghost use Rattle.std.specs.Prelude.{◌≡◌, ◌+◌, OnOk};
 
     /// Goes back by `n` octets, to `start`.
     fn go_back(&mut self, start: usize, n: u64) -> Result<(), Stop>
-        ensures ok { OnOk result ((self.new.at ≡ start) × (self.new.count ≡ self.old.count + n)) }
-        ensures long { IfErr result (λ e. 2 ^ 64 ≤ self.old.count + n) }
+        ensures { OnOk result ((self.new.at ≡ start) × (self.new.count ≡ self.old.count + n)) }
     {
         match self.count.checked_add(n) {
             Some(count) => {
@@ -29,7 +27,7 @@ impl Comparing {
                 self.at = start;
                 Ok(())
             }
-            None => Err(Stop::TooLong),
+            None => Err(Stop),
         }
     }
 }
@@ -38,6 +36,7 @@ impl Sink for Comparing {
     ghost taking = { record {
       puts = λ k s q t. (take s.at k ≡ take t.at k ++ q) × (t.count ≡ s.count + length q);
       count = λ s. s.count;
+      stops = λ n. Unit {0};
     } };
 
     fn count(&self) -> u64 {
@@ -46,35 +45,36 @@ impl Sink for Comparing {
 
     fn octets(&mut self, kept: &[u8], octets: &[u8]) -> Result<(), Stop> {
         if octets.len() > self.at || self.at > kept.len() {
-            return Err(Stop::Different);
+            return Err(Stop);
         }
         let start = self.at - octets.len();
-        if &kept[start..self.at] != octets {
-            return Err(Stop::Different);
+        if &kept[start..self.at] == octets {
+            self.go_back(start, octets.len() as u64)
+        } else {
+            Err(Stop)
         }
-        self.go_back(start, octets.len() as u64)
     }
 
     fn span(&mut self, kept: &[u8], span: Span) -> Result<(), Stop> {
         if span.end != self.at || span.start > span.end || span.end > kept.len() {
-            return Err(Stop::Different);
+            return Err(Stop);
         }
         self.go_back(span.start, (span.end - span.start) as u64)
     }
 
-    fn spans(&mut self, kept: &[u8], spans: BorrowedSpans<'_>) -> Result<(), Stop> {
-        take_each(self, kept, spans)
+    fn spans_at_once(&mut self, _: &[u8], _: BorrowedSpans<'_>) -> Result<bool, Stop> {
+        Ok(false)
     }
 
     fn sort(&mut self, kept: &[u8], from: u64) -> Result<(), Stop> {
         let n = self.count.saturating_sub(from);
         if self.at > kept.len() || n > (kept.len() - self.at) as u64 {
-            return Err(Stop::Different);
+            return Err(Stop);
         }
         if frames_ascend(&kept[self.at..self.at + n as usize]) {
             Ok(())
         } else {
-            Err(Stop::Different)
+            Err(Stop)
         }
     }
 

@@ -3,30 +3,25 @@
 //! A copy of 8 MiB of content takes as many fresh pages as the octets kept: the whole then takes 1.6
 //! times as long as a program that only copies, and 1.2 times without it. One string is enough, since a
 //! message has one content.
-ghost use Rattle.std.specs.Prelude.{◌≡◌, ◌+◌, ◌++◌, ◌<◌, ◌≤◌, ◌^◌, ℕ, List, [], drop, length, OnOk, IfOk, IfErr};
+ghost use Rattle.std.specs.Prelude.{◌≡◌, ◌+◌, ◌++◌, ◌<◌, ◌≤◌, ◌^◌, ℕ, List, [], drop, length, min, OnOk, OnErr, IfOk, IfErr};
 ghost use Rattle.std.specs.Io.KnownBytes.{Appends};
 ghost use Rattle.cms_tlv.specs.Pouring.{StopsAfter};
 ghost use Rattle.cms_tlv.specs.Streams.{Counts};
 ghost use Rattle.cms_tlv.specs.Spans.{borrowed_spans, octets_in};
-ghost use Rattle.cms_tlv.specs.Spelling.{element, der, join};
-ghost use Rattle.cms_tlv.specs.Writing.{AppendsHeader};
+ghost use Rattle.cms_tlv.specs.Spelling.{join};
 ghost use Rattle.cms_fields.specs.Received.{spanned_in};
-ghost use Rattle.cms_fields.specs.Writing.{Writes, IsLengthOf};
-ghost use Rattle.cms_fields.specs.Gathering.{Parts, octets_of_parts};
+ghost use Rattle.std.specs.List.{AllByRecursion};
+ghost use Rattle.cms_tlv.specs.Frames.{IsDerFrame};
+ghost use Rattle.cms_setof.specs.Gathering.{Parts, octets_of_parts};
+ghost use Rattle.cms_setof.specs.internal.Merging.{AreSorted};
 
-use crate::indexed::Items;
+use crate::appending::{push_all, total};
+use crate::front::Front;
 use crate::pouring::{copy_around, pour_around};
-use crate::write::{Write, append_spans, contents_len, element_len};
-use cms_tlv::{BorrowedSpans, Fault, Output, Span, put_header};
+use cms_tlv::{BorrowedSpans, Fault, Output, Span};
 use std::alloc::{AllocError, Global};
 use std::marker::Model;
 use std::mem;
-
-/// A string is borrowed only if it has at least this many octets.
-const LONG: u64 = 0x1_0000;
-
-/// A string is borrowed only if its spans have at least this many octets each, on average.
-const LONG_SPAN: u64 = 64;
 
 /// How many octets are collected before they are written.
 const ROOM: usize = 0x1_0000;
@@ -34,9 +29,9 @@ const ROOM: usize = 0x1_0000;
 /// An encoding in which one long string may be borrowed: that string stays in the octets that it was read
 /// from.
 pub struct Gathered {
-    before: Vec<u8>,
-    borrowed: Vec<Span>,
-    pub(crate) after: Vec<u8>,
+    pub(crate) before: Front,
+    pub(crate) borrowed: Vec<Span>,
+    pub(crate) after: Front,
 }
 
 impl Drop for Gathered {
@@ -52,18 +47,18 @@ impl Drop for Gathered {
 impl Model for Gathered {
     ghost Value = { Parts };
 
-    ghost view = { λ x. (x.before.items, (x.borrowed.items, x.after.items)) };
+    ghost view = { λ x. (x.before, (x.borrowed.items, x.after)) };
 }
 
 impl Gathered {
     /// Nothing yet, with room for `n` octets. An error means out of memory.
-    pub fn with_capacity(alloc: Global, n: usize) -> Result<Gathered, AllocError>
+    pub(crate) fn with_room(alloc: Global, n: usize) -> Result<Gathered, AllocError>
         ensures { (k : List ℕ) → IfOk result (λ g. octets_of_parts k g ≡ []) }
     {
         Ok(Gathered {
-            before: Vec::new(alloc),
+            before: Front::with_room(alloc, n)?,
             borrowed: Vec::new(alloc),
-            after: Vec::with_capacity(alloc, n)?,
+            after: Front::new(alloc),
         })
     }
 
@@ -75,85 +70,10 @@ impl Gathered {
         let mut borrowed = Vec::with_capacity(alloc, 1)?;
         borrowed.push(span)?;
         Ok(Gathered {
-            before: Vec::new(alloc),
+            before: Front::new(alloc),
             borrowed,
-            after: Vec::new(alloc),
+            after: Front::new(alloc),
         })
-    }
-
-    /// Appends the identifier octet `ident` and the length `n`.
-    fn append_header(&mut self, ident: u8, n: u64) -> Result<(), AllocError>
-        ensures { (k : List ℕ)
-            → OnOk result (AppendsHeader ident n
-            (octets_of_parts k self.old) (octets_of_parts k self.new)) }
-    {
-        put_header(&mut self.after, ident, n)
-    }
-
-    /// Appends an element with the identifier octet `ident` that holds the encoding of `contents`. An
-    /// error means out of memory; a prefix of the element may then have been appended.
-    pub fn append_element<T: Write>(
-        &mut self,
-        ident: u8,
-        contents: &T,
-        alloc: Global,
-        kept: &[u8],
-    ) -> Result<(), AllocError>
-        requires { T.grammar.is_value (T.value kept.now contents.now) }
-        ensures { OnOk result (Writes (element der ident (T.grammar.spelled der)) T.grammar.same
-            (T.value kept.now contents.now) (octets_of_parts kept.now self.old)
-            (octets_of_parts kept.now self.new)) }
-    {
-        let n = element_len(contents, kept);
-        if n == u64::MAX {
-            return Err(AllocError);
-        }
-        self.append_element_with_len(ident, n, contents, alloc, kept)
-    }
-
-    /// `append_element` for an element of `n` octets.
-    pub(crate) fn append_element_with_len<T: Write>(
-        &mut self,
-        ident: u8,
-        n: u64,
-        contents: &T,
-        alloc: Global,
-        kept: &[u8],
-    ) -> Result<(), AllocError>
-        requires value { T.grammar.is_value (T.value kept.now contents.now) }
-        requires length { IsLengthOf (element der ident (T.grammar.spelled der)) T.grammar.same
-            (T.value kept.now contents.now) n }
-        ensures ok { OnOk result (Writes (element der ident (T.grammar.spelled der)) T.grammar.same
-            (T.value kept.now contents.now) (octets_of_parts kept.now self.old)
-            (octets_of_parts kept.now self.new)) }
-        ensures length { OnOk result (length (octets_of_parts kept.now self.new)
-            ≡ length (octets_of_parts kept.now self.old) + n) }
-    {
-        let inner = contents_len(n);
-        self.append_header(ident, inner)?;
-        contents.gather_with_len(inner, alloc, kept, self)
-    }
-
-    /// Appends the `n` octets of `kept` that the spans name, one after another. The first long string
-    /// is borrowed, and everything else is copied. An error means out of memory; a prefix of the octets may
-    /// then have been appended.
-    pub fn append_spans(
-        &mut self,
-        spans: BorrowedSpans<'_>,
-        n: u64,
-        alloc: Global,
-        kept: &[u8],
-    ) -> Result<(), AllocError>
-        ensures { OnOk result (octets_of_parts kept.now self.new ≡ octets_of_parts kept.now self.old
-            ++ join (spanned_in kept.now (borrowed_spans spans.entry))) }
-    {
-        let is_long = n >= LONG && n / LONG_SPAN >= spans.len();
-        if is_long && self.before.is_empty() && self.borrowed.is_empty() {
-            push_all(spans, &mut self.borrowed)?;
-            self.before = mem::replace(&mut self.after, Vec::new(alloc));
-            return Ok(());
-        }
-        append_spans(spans, kept, &mut self.after)
     }
 
     /// Writes everything; what is borrowed is written from `kept`. After `Fault::Write` the writer has
@@ -173,10 +93,10 @@ impl Gathered {
             Err(_) => Vec::new(alloc),
         };
         pour_around(
-            &self.before,
+            self.before.octets(),
             &self.borrowed,
             kept,
-            &self.after,
+            self.after.octets(),
             &mut buffer,
             output,
         )
@@ -185,7 +105,9 @@ impl Gathered {
     /// Whether nothing is to be collected before it is written.
     fn is_in_one_piece(&self) -> bool {
         self.borrowed.is_empty()
-            || self.borrowed.len() == 1 && self.before.is_empty() && self.after.is_empty()
+            || self.borrowed.len() == 1
+                && self.before.octets().is_empty()
+                && self.after.octets().is_empty()
     }
 
     /// Copies everything to the beginning of `out`; what is borrowed is copied from `kept`.
@@ -194,17 +116,93 @@ impl Gathered {
         ensures { out.new ≡ octets_of_parts kept.now self.now
             ++ drop (length (octets_of_parts kept.now self.now)) out.old }
     {
-        copy_around(&self.before, &self.borrowed, kept, &self.after, out)
+        copy_around(
+            self.before.octets(),
+            &self.borrowed,
+            kept,
+            self.after.octets(),
+            out,
+        )
     }
-}
 
-/// Adds all of `more` at the end of `spans`. An error means out of memory; a prefix of them may then
-/// have been added.
-fn push_all(more: BorrowedSpans<'_>, spans: &mut Vec<Span>) -> Result<(), AllocError>
-    ensures { OnOk result (spans.new.items ≡ spans.old.items ++ borrowed_spans more.entry) }
-{
-    for span in Items::new(more) {
-        spans.push(span)?;
+    /// How many octets there are, or `u64::MAX` if there are more.
+    fn len(&self, kept: &[u8]) -> u64
+        ensures { result ≡ min (length (octets_of_parts kept.now self.now)) 0xFFFF_FFFF_FFFF_FFFF }
+    {
+        let borrowed = total(BorrowedSpans::new(&self.borrowed), kept);
+        let before = self.before.octets().len() as u64;
+        let after = self.after.octets().len() as u64;
+        before.saturating_add(borrowed).saturating_add(after)
     }
-    Ok(())
+
+    /// Appends everything; what is borrowed is copied from `kept`. An error means out of memory; `out` is
+    /// then as it was.
+    pub(crate) fn append_to(&self, kept: &[u8], out: &mut Vec<u8>) -> Result<(), AllocError>
+        ensures ok { OnOk result (out.new.items
+            ≡ out.old.items ++ octets_of_parts kept.now self.now) }
+        ensures err { OnErr result (out.new.items ≡ out.old.items) }
+    {
+        let n = self.len(kept);
+        let start = out.len();
+        if n > (usize::MAX - start) as u64 {
+            return Err(AllocError);
+        }
+        out.resize(start + n as usize, 0)?;
+        self.copy_to(kept, &mut out[start..]);
+        Ok(())
+    }
+
+    /// Puts what spans name before all that is there, borrowed. An error means out of memory.
+    pub(crate) fn borrow(
+        &mut self,
+        spans: BorrowedSpans<'_>,
+        alloc: Global,
+    ) -> Result<(), AllocError>
+        requires borrowed { self.old.1.0 ≡ [] }
+        requires after { self.old.1.1 ≡ [] }
+        ensures { (k : List ℕ) → OnOk result (octets_of_parts k self.new
+            ≡ join (spanned_in k (borrowed_spans spans.entry)) ++ octets_of_parts k self.old) }
+    {
+        let mut borrowed = Vec::with_capacity(alloc, spans.len() as usize)?;
+        push_all(spans, &mut borrowed)?;
+        self.after = mem::replace(&mut self.before, Front::new(alloc));
+        self.borrowed = borrowed;
+        Ok(())
+    }
+
+    /// Copies what is borrowed from `kept`, so that everything is in one piece. An error means out of
+    /// memory.
+    pub(crate) fn settle(&mut self, kept: &[u8], alloc: Global) -> Result<(), AllocError>
+        ensures { OnOk result (self.new ≡ (octets_of_parts kept.now self.old, ([], []))) }
+    {
+        let mut all = Vec::new(alloc);
+        self.append_to(kept, &mut all)?;
+        self.before = Front::of(alloc, all);
+        self.borrowed = Vec::new(alloc);
+        self.after = Front::new(alloc);
+        Ok(())
+    }
+
+    /// Puts the frames that the first `n` octets are in ascending order (X.690, 11.6). If some of them are
+    /// borrowed, they are copied from `kept` first. An error means out of memory, or fewer octets.
+    pub(crate) fn sort_first(
+        &mut self,
+        n: u64,
+        kept: &[u8],
+        alloc: Global,
+    ) -> Result<(), AllocError>
+        ensures { OnOk result ((frames : List (List ℕ)) (rest : List ℕ)
+            → AllByRecursion IsDerFrame frames → n ≡ length (join frames)
+            → octets_of_parts kept.now self.old ≡ join frames ++ rest
+            → (sorted : List ℕ) × AreSorted frames sorted
+            × (octets_of_parts kept.now self.new ≡ sorted ++ rest)) }
+    {
+        if n > self.before.octets().len() as u64 {
+            self.settle(kept, alloc)?;
+        }
+        if n > self.before.octets().len() as u64 {
+            return Err(AllocError);
+        }
+        self.before.sort_first(n as usize)
+    }
 }

@@ -7,7 +7,7 @@ ghost use Rattle.std.specs.Io.KnownBytes.{Appends};
 ghost use Rattle.cms_tlv.specs.Pouring.{StopsAfter};
 ghost use Rattle.cms_tlv.specs.Spelling.{join};
 ghost use Rattle.cms_tlv.specs.Streams.{Counts};
-ghost use Rattle.cms_fields.specs.internal.Pouring.{Sends, StopsAmid, PutAfter};
+ghost use Rattle.cms_setof.specs.internal.Pouring.{Sends, StopsAmid, PutAfter};
 ghost use Rattle.cms_fields.specs.Received.{spanned_in};
 
 use cms_tlv::{Fault, Output, Span, pour};

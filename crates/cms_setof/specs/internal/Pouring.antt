@@ -3,7 +3,7 @@ use Rattle.std.specs.Prelude.{◌≡◌, ◌<◌, ℕ, ◌+◌, List, ◌++◌, 
 use Rattle.std.specs.Io.KnownBytes.{Appends}
 use Rattle.cms_tlv.specs.declared.fault.Fault.{Fault}
 use Rattle.cms_tlv.specs.declared.fault.Fault.TheVariants as faults
-use Rattle.cms_fields.specs.declared.pouring.Progress.{Progress}
+use Rattle.cms_setof.specs.declared.pouring.Progress.{Progress}
 
 -- of what a held and of the octets after it, the writer took the first part, and b holds the rest
 pub record Sends (octets : List ℕ) (p q : Progress) (a b : List ℕ)

@@ -2,8 +2,8 @@ use Rattle.std.proofs.Common.{◌≡◌, List, ℕ, ◌++◌, length, drop, ap, 
 use Rattle.std.proofs.lemmas.List.{take-append-drop}
 use Rattle.cms_tlv.specs.Spelling.{join}
 use Rattle.cms_fields.specs.Received.{spanned_in}
-use Rattle.cms_fields.proofs.PouringLaws.{put_more}
-use Rattle.cms_fields.proofs.pouring.copy_around.Goals as goal
+use Rattle.cms_setof.proofs.PouringLaws.{put_more}
+use Rattle.cms_setof.proofs.pouring.copy_around.Goals as goal
 
 pub returns : goal.returns
 returns c =

@@ -1,11 +1,11 @@
 use Rattle.std.proofs.Common.{◌≡◌, ◌+◌, ◌++◌, length, take, drop, arith, sym, ap, ◌∙◌, subst}
 use Rattle.std.proofs.lemmas.List.{length-append}
 use Rattle.cms_tlv.specs.Spelling.{join}
-use Rattle.cms_fields.specs.internal.Pouring.{PutAfter}
+use Rattle.cms_setof.specs.internal.Pouring.{PutAfter}
 use Rattle.cms_fields.specs.Received.{spanned_in}
 use Rattle.cms_fields.proofs.SpannedLaws.{spanned_more, spanned_parts}
-use Rattle.cms_fields.proofs.PouringLaws.{put_more}
-use Rattle.cms_fields.proofs.pouring.hold_spans.Goals as goal
+use Rattle.cms_setof.proofs.PouringLaws.{put_more}
+use Rattle.cms_setof.proofs.pouring.hold_spans.Goals as goal
 
 pub hold-requires : goal.hold-requires
 hold-requires c =

@@ -3,8 +3,8 @@ use Rattle.std.proofs.lemmas.Result.{IfErr-weaker, err_from_is_err_and}
 use Rattle.cms_tlv.specs.Pouring.{StopsAfter}
 use Rattle.cms_tlv.specs.Spelling.{join}
 use Rattle.cms_fields.specs.Received.{spanned_in}
-use Rattle.cms_fields.proofs.PouringLaws.{stops_first, stops_held, stops_later, stops_within, sends_more}
-use Rattle.cms_fields.proofs.pouring.pour_around.Goals as goal
+use Rattle.cms_setof.proofs.PouringLaws.{stops_first, stops_held, stops_later, stops_within, sends_more}
+use Rattle.cms_setof.proofs.pouring.pour_around.Goals as goal
 
 pub returns-in_err-send-clause-err : goal.returns-in_err-send-clause-err
 returns-in_err-send-clause-err g c =

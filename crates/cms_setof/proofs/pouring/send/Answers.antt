@@ -1,9 +1,9 @@
 use Rattle.std.proofs.Common.{◌≡◌, ◌+◌, length, take, sym, ap, ◌∙◌}
 use Rattle.std.proofs.lemmas.List.{length-take-le}
 use Rattle.std.proofs.lemmas.Result.{IfErr-weaker}
-use Rattle.cms_fields.specs.declared.pouring.Progress.{Progress}
-use Rattle.cms_fields.proofs.PouringLaws.{stops_past, writes_all}
-use Rattle.cms_fields.proofs.pouring.send.Goals as goal
+use Rattle.cms_setof.specs.declared.pouring.Progress.{Progress}
+use Rattle.cms_setof.proofs.PouringLaws.{stops_past, writes_all}
+use Rattle.cms_setof.proofs.pouring.send.Goals as goal
 
 pub returns-clause-ok : goal.returns-clause-ok
 returns-clause-ok g c =

@@ -1,11 +1,11 @@
 use Rattle.std.proofs.Common.{◌≡◌, ◌+◌, ◌++◌, length, take, drop, arith, rules, sym, ap, ◌∙◌, subst, append_assoc}
 use Rattle.std.proofs.lemmas.List.{length-append}
 use Rattle.cms_tlv.specs.Spelling.{join}
-use Rattle.cms_fields.specs.internal.Pouring.{Sends, StopsAmid}
+use Rattle.cms_setof.specs.internal.Pouring.{Sends, StopsAmid}
 use Rattle.cms_fields.specs.Received.{spanned_in}
 use Rattle.cms_fields.proofs.SpannedLaws.{spanned_more, spanned_parts}
-use Rattle.cms_fields.proofs.PouringLaws.{stops_later, stops_within, sends_more, sends_count}
-use Rattle.cms_fields.proofs.pouring.send_spans.Goals as goal
+use Rattle.cms_setof.proofs.PouringLaws.{stops_later, stops_within, sends_more, sends_count}
+use Rattle.cms_setof.proofs.pouring.send_spans.Goals as goal
 
 pub send-requires-clause-count : goal.send-requires-clause-count
 send-requires-clause-count g c =

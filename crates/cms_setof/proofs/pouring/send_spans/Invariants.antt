@@ -1,8 +1,8 @@
 use Rattle.std.proofs.Common.{◌≡◌, ◌≤◌, length, take}
 use Rattle.cms_tlv.specs.Spelling.{join}
-use Rattle.cms_fields.specs.internal.Pouring.{Sends}
+use Rattle.cms_setof.specs.internal.Pouring.{Sends}
 use Rattle.cms_fields.specs.Received.{spanned_in}
-use Rattle.cms_fields.proofs.pouring.send_spans.Given as goal
+use Rattle.cms_setof.proofs.pouring.send_spans.Given as goal
 
 abbrev pub invariant-loop-span : goal.invariant-loop-span
 invariant-loop-span g l = record {

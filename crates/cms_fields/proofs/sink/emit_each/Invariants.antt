@@ -2,7 +2,7 @@ use Rattle.std.proofs.Common.{◌≤◌, length, drop}
 use Rattle.cms_tlv.specs.Spans.{borrowed_spans}
 use Rattle.cms_tlv.specs.Spelling.{join}
 use Rattle.cms_fields.specs.Received.{spanned_in}
-use Rattle.cms_fields.proofs.sink.take_each.Given as goal
+use Rattle.cms_fields.proofs.sink.emit_each.Given as goal
 
 abbrev pub invariant-loop-left : goal.invariant-loop-left
 invariant-loop-left g l =

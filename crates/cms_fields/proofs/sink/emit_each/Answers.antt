@@ -6,7 +6,7 @@ use Rattle.cms_tlv.specs.Spelling.{join}
 use Rattle.cms_fields.specs.Received.{spanned_in}
 use Rattle.cms_fields.proofs.SpannedLaws.{shorter_rest}
 use Rattle.cms_fields.proofs.WriteLaws.{on_err_each}
-use Rattle.cms_fields.proofs.sink.take_each.Goals as goal
+use Rattle.cms_fields.proofs.sink.emit_each.Goals as goal
 
 pub loop-left-preserved : goal.loop-left-preserved
 loop-left-preserved g c =

@@ -1,0 +1,11 @@
+use Rattle.std.proofs.Common.{◌≡◌, ◌++◌}
+use Rattle.cms_tlv.specs.Spans.{borrowed_spans}
+use Rattle.cms_tlv.specs.Spelling.{join}
+use Rattle.cms_fields.specs.Indexed.{left}
+use Rattle.cms_fields.specs.Received.{spanned_in}
+use Rattle.cms_setof.proofs.appending.append_spans.Given as goal
+
+abbrev pub invariant-loop-span : goal.invariant-loop-span
+invariant-loop-span l =
+    (goal.iterator-loop-span).can_next l.span-iterator × (goal.iterator-loop-span).is_finite l.span-iterator
+    × (l.out.items ++ join (spanned_in l.kept (left borrowed_spans l.span-iterator)) ≡ l.fn.out.items ++ join (spanned_in l.kept (borrowed_spans l.spans)))

@@ -1,0 +1,12 @@
+use Rattle.std.proofs.Common.{◌≡◌, ◌+◌, length, ap, sym, ◌∙◌}
+use Rattle.cms_setof.proofs.RowLaws.{can_ascend}
+use Rattle.cms_setof.proofs.count.CountSink.sort.Goals as goal
+
+pub returns-clause-ok : goal.returns-clause-ok
+returns-clause-ok c = λ s bs e f a.
+    let o = can_ascend bs f in record {
+      sorted = o.0;
+      permutation = o.1;
+      ascends = o.2;
+      put = a ∙ ap (λ n. s.octets + n) (sym o.3);
+    }

@@ -1,0 +1,125 @@
+//! What is made of a value by one walk.
+ghost use Rattle.std.specs.Prelude.{◌≡◌, length, true, OnOk, OnErr, IfOk};
+ghost use Rattle.cms_tlv.specs.Spelling.{element, der};
+ghost use Rattle.cms_fields.specs.Writing.{IsWritten, Writes, HasLength};
+ghost use Rattle.cms_setof.specs.Gathering.{octets_of_parts};
+
+use crate::comparing::Comparing;
+use crate::count::Count;
+use crate::gathered::Gathered;
+use crate::gathering::Gathering;
+use cms_fields::{Sink, Write, emit_element};
+use std::alloc::{AllocError, Global};
+
+/// How long an encoding is.
+#[derive(Clone, Copy)]
+pub struct EncodedLen {
+    /// How many octets it has, or `u64::MAX` if there are more.
+    pub octets: u64,
+    /// How many octets the string in it has that may be borrowed; 0 if there is none.
+    pub long_string: u64,
+}
+
+/// How long the encoding of a value is.
+pub fn encoded_len<T: Write>(value: &T, kept: &[u8]) -> EncodedLen
+    requires { T.grammar.is_value (T.value kept.now value.now) }
+    ensures { HasLength (T.grammar.spelled der) T.grammar.same
+        (T.value kept.now value.now) result.octets }
+{
+    let mut count = Count {
+        octets: 0,
+        long_string: 0,
+    };
+    match value.emit(kept, &mut count) {
+        Ok(()) => EncodedLen {
+            octets: count.count(),
+            long_string: count.long_string,
+        },
+        Err(_) => EncodedLen {
+            octets: u64::MAX,
+            long_string: 0,
+        },
+    }
+}
+
+/// Whether the kept octets are the encoding of a value. They may be although this says no.
+pub fn is_encoding<T: Write>(value: &T, kept: &[u8]) -> bool
+    requires { T.grammar.is_value (T.value kept.now value.now) }
+    ensures written { result ≡ true → IsWritten (T.grammar.spelled der) T.grammar.same
+        (T.value kept.now value.now) kept.now }
+    ensures length { result ≡ true → HasLength (T.grammar.spelled der) T.grammar.same
+        (T.value kept.now value.now) (length kept.now) }
+{
+    let mut comparing = Comparing {
+        at: kept.len(),
+        count: 0,
+    };
+    value.emit(kept, &mut comparing).is_ok() && comparing.at == 0
+}
+
+/// The encoding of a value, in which a string of `len.long_string` octets may be borrowed. An error
+/// means out of memory.
+pub fn gather<T: Write>(
+    value: &T,
+    len: EncodedLen,
+    alloc: Global,
+    kept: &[u8],
+) -> Result<Gathered, AllocError>
+    requires { T.grammar.is_value (T.value kept.now value.now) }
+    ensures { IfOk result (λ g. IsWritten (T.grammar.spelled der) T.grammar.same
+        (T.value kept.now value.now) (octets_of_parts kept.now g)) }
+{
+    let room = len.octets.saturating_sub(len.long_string);
+    let mut sink = Gathering {
+        gathered: Gathered::with_room(alloc, room as usize)?,
+        count: 0,
+        lend: len.long_string,
+        alloc,
+    };
+    match value.emit(kept, &mut sink) {
+        Ok(()) => Ok(sink.gathered),
+        Err(_) => Err(AllocError),
+    }
+}
+
+/// Appends the encoding of a value. An error means out of memory; `out` is then as it was.
+pub fn put<T: Write>(
+    value: &T,
+    alloc: Global,
+    kept: &[u8],
+    out: &mut Vec<u8>,
+) -> Result<(), AllocError>
+    requires { T.grammar.is_value (T.value kept.now value.now) }
+    ensures ok { OnOk result (Writes (T.grammar.spelled der) T.grammar.same
+        (T.value kept.now value.now) out.old.items out.new.items) }
+    ensures err { OnErr result (out.new.items ≡ out.old.items) }
+{
+    let der = gather(value, encoded_len(value, kept), alloc, kept)?;
+    der.append_to(kept, out)
+}
+
+/// Appends an element with the identifier octet `ident` that holds the encoding of `contents`. An error
+/// means out of memory; `out` is then as it was.
+pub(crate) fn put_element<T: Write>(
+    ident: u8,
+    contents: &T,
+    alloc: Global,
+    kept: &[u8],
+    out: &mut Vec<u8>,
+) -> Result<(), AllocError>
+    requires { T.grammar.is_value (T.value kept.now contents.now) }
+    ensures ok { OnOk result (Writes (element der ident (T.grammar.spelled der)) T.grammar.same
+        (T.value kept.now contents.now) out.old.items out.new.items) }
+    ensures err { OnErr result (out.new.items ≡ out.old.items) }
+{
+    let mut sink = Gathering {
+        gathered: Gathered::with_room(alloc, 0)?,
+        count: 0,
+        lend: 0,
+        alloc,
+    };
+    match emit_element(ident, contents, kept, &mut sink) {
+        Ok(()) => sink.gathered.append_to(kept, out),
+        Err(_) => Err(AllocError),
+    }
+}
