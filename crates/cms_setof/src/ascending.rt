@@ -45,9 +45,13 @@ pub(crate) fn sort_frames(row: &mut [u8], alloc: Global) -> Result<(), AllocErro
     if frames_ascend(row) {
         return Ok(());
     }
+    // No frame has fewer than two octets.
+    if row.len() / 2 <= AT_ONCE {
+        return sort_at_once(row, alloc);
+    }
     let count = frame_count(row);
     if count <= AT_ONCE {
-        return sort_at_once(row, count, alloc);
+        return sort_at_once(row, alloc);
     }
     let mut copy = Vec::with_capacity(alloc, frames_len(row, count / 2))?;
     sort_halves(row, count, alloc, &mut copy)
@@ -64,7 +68,7 @@ fn sort_halves(
         → AreSorted bs row.new) }
 {
     if count <= AT_ONCE {
-        return sort_at_once(row, count, alloc);
+        return sort_at_once(row, alloc);
     }
     let half = count / 2;
     let seam = frames_len(row, half);
@@ -73,12 +77,12 @@ fn sort_halves(
     merge_at(row, seam, copy)
 }
 
-/// Sorts `count` frames as `sort_frames` does, by way of a copy of all of them.
-fn sort_at_once(row: &mut [u8], count: usize, alloc: Global) -> Result<(), AllocError>
+/// Sorts frames as `sort_frames` does, by way of a copy of all of them.
+fn sort_at_once(row: &mut [u8], alloc: Global) -> Result<(), AllocError>
     ensures { OnOk result ((bs : List (List ℕ)) → AllByRecursion IsDerFrame bs → row.old ≡ join bs
         → AreSorted bs row.new) }
 {
-    let mut spans = frame_spans(row, count, alloc)?;
+    let mut spans = frame_spans(row, alloc)?;
     let mut sorted = Vec::with_capacity(alloc, row.len())?;
     append_sorted(row, &mut spans, alloc, &mut sorted)?;
     row.copy_from_slice(&sorted);
