@@ -18,6 +18,9 @@ use std::alloc::{AllocError, Global};
 /// How many frames are sorted at once.
 const AT_ONCE: usize = 16384;
 
+/// Room for the spans of most sets, if they are not counted, which takes longer than to make more room.
+const FEW: usize = 16;
+
 /// Whether the frames that lie in `row` one after another ascend.
 pub(crate) fn frames_ascend(row: &[u8]) -> bool
     ensures { (bs : List (List ℕ)) → AllByRecursion IsDerFrame bs → row.now ≡ join bs
@@ -36,8 +39,8 @@ pub(crate) fn frames_ascend(row: &[u8]) -> bool
     true
 }
 
-/// Puts the frames that lie in `row` one after another in ascending order. An error means out of
-/// memory; `row` may then have other octets.
+/// Puts frames into ascending order, which lie in `row` one after another. An error means out of memory;
+/// `row` may then have any octets.
 pub(crate) fn sort_frames(row: &mut [u8], alloc: Global) -> Result<(), AllocError>
     ensures { OnOk result ((bs : List (List ℕ)) → AllByRecursion IsDerFrame bs → row.old ≡ join bs
         → AreSorted bs row.new) }
@@ -47,11 +50,11 @@ pub(crate) fn sort_frames(row: &mut [u8], alloc: Global) -> Result<(), AllocErro
     }
     // No frame has fewer than two octets.
     if row.len() / 2 <= AT_ONCE {
-        return sort_at_once(row, alloc);
+        return sort_at_once(row, FEW, alloc);
     }
     let count = frame_count(row);
     if count <= AT_ONCE {
-        return sort_at_once(row, alloc);
+        return sort_at_once(row, count, alloc);
     }
     let mut copy = Vec::with_capacity(alloc, frames_len(row, count / 2))?;
     sort_halves(row, count, alloc, &mut copy)
@@ -68,7 +71,7 @@ fn sort_halves(
         → AreSorted bs row.new) }
 {
     if count <= AT_ONCE {
-        return sort_at_once(row, alloc);
+        return sort_at_once(row, count, alloc);
     }
     let half = count / 2;
     let seam = frames_len(row, half);
@@ -77,12 +80,13 @@ fn sort_halves(
     merge_at(row, seam, copy)
 }
 
-/// Sorts frames as `sort_frames` does, by way of a copy of all of them.
-fn sort_at_once(row: &mut [u8], alloc: Global) -> Result<(), AllocError>
+/// Sorts frames as `sort_frames` does, by way of a copy of all of them; there is room for the spans of
+/// `room` frames at first.
+fn sort_at_once(row: &mut [u8], room: usize, alloc: Global) -> Result<(), AllocError>
     ensures { OnOk result ((bs : List (List ℕ)) → AllByRecursion IsDerFrame bs → row.old ≡ join bs
         → AreSorted bs row.new) }
 {
-    let mut spans = frame_spans(row, alloc)?;
+    let mut spans = frame_spans(row, room, alloc)?;
     let mut sorted = Vec::with_capacity(alloc, row.len())?;
     append_sorted(row, &mut spans, alloc, &mut sorted)?;
     row.copy_from_slice(&sorted);
