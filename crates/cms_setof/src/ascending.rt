@@ -19,7 +19,7 @@ use std::alloc::{AllocError, Global};
 const AT_ONCE: usize = 16384;
 
 /// Room for the spans of most sets, if they are not counted, which takes longer than to make more room.
-const FEW: usize = 16;
+const ROOM: usize = 16;
 
 /// Whether the frames that lie in `row` one after another ascend.
 pub(crate) fn frames_ascend(row: &[u8]) -> bool
@@ -50,7 +50,7 @@ pub(crate) fn sort_frames(row: &mut [u8], alloc: Global) -> Result<(), AllocErro
     }
     // No frame has fewer than two octets.
     if row.len() / 2 <= AT_ONCE {
-        return sort_at_once(row, FEW, alloc);
+        return sort_at_once(row, ROOM, alloc);
     }
     let count = frame_count(row);
     if count <= AT_ONCE {
