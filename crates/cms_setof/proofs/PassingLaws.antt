@@ -17,9 +17,6 @@ pub record Passed (bs : List (List ℕ)) (octets : List ℕ) (k n : ℕ) : Type 
   pub left : drop n octets ≡ join (drop k bs)
   pub der : AllByRecursion IsDerFrame (drop k bs)
 
-pub none_passed : (bs : List (List ℕ)) (octets : List ℕ) → AllByRecursion IsDerFrame bs → octets ≡ join bs → Passed bs octets 0 0
-none_passed bs octets p e = record { left = e; der = p }
-
 module _ (octets : List ℕ) (n len : ℕ) (within : n + len ≤ length octets)
     (is : (f rest : List ℕ) → IsDerFrame f → drop n octets ≡ f ++ rest → len ≡ length f) where
   behind_first : (gs : List (List ℕ)) → AllByRecursion IsDerFrame gs → drop n octets ≡ join gs → drop (n + len) octets ≡ join (drop 1 gs)

@@ -18,6 +18,9 @@ use std::alloc::{AllocError, Global};
 /// How many frames are sorted at once.
 const AT_ONCE: usize = 16384;
 
+/// Room for the spans of most sets, if they are not counted, which takes longer than to make more room.
+const ROOM: usize = 16;
+
 /// Whether the frames that lie in `row` one after another ascend.
 pub(crate) fn frames_ascend(row: &[u8]) -> bool
     ensures { (bs : List (List ℕ)) → AllByRecursion IsDerFrame bs → row.now ≡ join bs
@@ -36,14 +39,18 @@ pub(crate) fn frames_ascend(row: &[u8]) -> bool
     true
 }
 
-/// Puts the frames that lie in `row` one after another in ascending order. An error means out of
-/// memory; `row` may then have other octets.
+/// Puts frames into ascending order, which lie in `row` one after another. An error means out of memory;
+/// `row` may then have any octets.
 pub(crate) fn sort_frames(row: &mut [u8], alloc: Global) -> Result<(), AllocError>
     ensures { OnOk result ((bs : List (List ℕ)) → AllByRecursion IsDerFrame bs → row.old ≡ join bs
         → AreSorted bs row.new) }
 {
     if frames_ascend(row) {
         return Ok(());
+    }
+    // No frame has fewer than two octets.
+    if row.len() / 2 <= AT_ONCE {
+        return sort_at_once(row, ROOM, alloc);
     }
     let count = frame_count(row);
     if count <= AT_ONCE {
@@ -73,12 +80,13 @@ fn sort_halves(
     merge_at(row, seam, copy)
 }
 
-/// Sorts `count` frames as `sort_frames` does, by way of a copy of all of them.
-fn sort_at_once(row: &mut [u8], count: usize, alloc: Global) -> Result<(), AllocError>
+/// Sorts frames as `sort_frames` does, by way of a copy of all of them; there is room for the spans of
+/// `room` frames at first.
+fn sort_at_once(row: &mut [u8], room: usize, alloc: Global) -> Result<(), AllocError>
     ensures { OnOk result ((bs : List (List ℕ)) → AllByRecursion IsDerFrame bs → row.old ≡ join bs
         → AreSorted bs row.new) }
 {
-    let mut spans = frame_spans(row, count, alloc)?;
+    let mut spans = frame_spans(row, room, alloc)?;
     let mut sorted = Vec::with_capacity(alloc, row.len())?;
     append_sorted(row, &mut spans, alloc, &mut sorted)?;
     row.copy_from_slice(&sorted);
