@@ -18,7 +18,7 @@ returns c =
     let after = join (spanned_in k inside.borrowed.items) ++ inside.after in
     let now : inside.before ++ after ≡ octets_of_parts k c.args.self.now = ap (octets_of_parts k) c.self-2.view_is ∙ kept in
     on_ok_weaker c.sort_first.result (λ h frames rest d n e.
-    let small : length (join frames) ≤ length inside.before = omega (arith, c.octets-2.ensures, c.if-n-octets-2.false, n) in
+    let small : length (join frames) ≤ length inside.before = (let l = ap length c.octets-2.ensures in omega (arith, l, c.if-n-octets-2.false, n)) in
     let p = begin_alike (join frames) inside.before after rest (now ∙ e) small in
     let r = h frames d (ap (λ i. take i inside.before) n ∙ p.0) in (
       r.0,
