@@ -3,7 +3,7 @@ use Rattle.std.proofs.Common.{◌≡◌, ℕ, suc, ◌+◌, ◌^◌, ◌≤◌, 
 use mathlib.Core.Bool.{◌&&◌}
 use Rattle.std.specs.Prelude.{bytes_eq}
 use Rattle.std.specs.Option.{option_eq}
-use Rattle.std.specs.Cmp.{first_so, second_so}
+use Rattle.std.specs.Cmp.{IsEquivalence, first_so, second_so}
 use Rattle.std.proofs.lemmas.Slice.Eq.{bytes_eq-Decides}
 use Rattle.std.proofs.lemmas.List.{length-append}
 use Rattle.cms_tlv.specs.Headers.{IsShortLength}
@@ -11,10 +11,11 @@ use Rattle.cms_tlv.specs.Frames.{of_short_length}
 use Rattle.cms_tlv.specs.Spelling.{der, Spelling, element, ◌⨟◌, optional}
 use Rattle.cms_tlv.specs.Writing.{IsHeader}
 use Rattle.cms_tlv.proofs.HeaderLaws.{short_length_one}
+use Rattle.cms_fields.specs.Canonical.{IsCanonical}
 use Rattle.cms_fields.specs.Received.{as_received}
 use Rattle.cms_fields.specs.Sinks.{Taking, TakingLaws, Emits, StopsAt}
 use Rattle.cms_fields.specs.Writing.{IsWritten}
-use Rattle.cms_fields.proofs.WriteLaws.{element_written, then_written}
+use Rattle.cms_fields.proofs.WriteLaws.{element_written, then_written, written_equal}
 
 -- what is written for one value is what is written for the other
 module _ {V W : Type 0} {R : Spelling V} {T : Spelling W} {e : V → V → Bool} {f : W → W → Bool} {v : V} {w : W}
@@ -149,3 +150,17 @@ module _ (P : List ℕ → Type 0) {v : List ℕ} where
 
   pub received_stops : {S : Type 0} (t : Taking S) (n : ℕ) → t.stops (n + length v) → StopsAt t (as_received P) bytes_eq v n
   received_stops t n l o x = subst (λ z. t.stops (n + length z)) (sym (itself o x)) l
+
+-- octets that spell the value, if DER spells each value in one way
+module _ {V : Type 0} {R : Spelling V} {e : V → V → Bool} {v : V} (c : IsCanonical e R) (q : IsEquivalence e) {o : List ℕ} (r : R o v) where
+  spelled : IsWritten R e v o
+  spelled = record { value = v; spells = r; same = q.refl v }
+
+  only : (p : List ℕ) → IsWritten R e v p → p ≡ o
+  only p w = (written_equal c q w spelled).1 (q.refl v)
+
+  pub canonical_emits : {S : Type 0} {t : Taking S} {k : List ℕ} {a b : S} → t.puts k a o b → Emits t R e v k a b
+  canonical_emits p = record { octets = o; put = p; written = spelled; each = λ p w. ap length (only p w) }
+
+  pub canonical_stops : {S : Type 0} (t : Taking S) (n : ℕ) → t.stops (n + length o) → StopsAt t R e v n
+  canonical_stops t n l p w = subst (λ z. t.stops (n + length z)) (sym (only p w)) l

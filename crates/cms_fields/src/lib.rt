@@ -72,6 +72,6 @@ pub use primitive::{Constrained, Constraint, Primitive, Scalar};
 pub use received::{Kind, Received};
 pub use record::record_laws;
 pub use selected::{Selected, Selector};
-pub use sink::{Sink, Stop, emit_spans};
+pub use sink::{Sink, Stop, emit_spans, spans_len};
 pub use strict::{AlreadyDer, read_with_span};
 pub use write::{Write, emit_element};

@@ -3,12 +3,13 @@
 //! A header is taken after its contents, so its length is what was taken since: no length is passed
 //! down, counted again or kept. From the first octet to the last, a sink that counts would have no
 //! length to give to a header, and each level would count what is in it again.
-ghost use Rattle.std.specs.Prelude.{◌+◌, ℕ, List, length, OnErr, OnOk};
+ghost use Rattle.std.specs.Prelude.{◌≡◌, ◌+◌, ℕ, List, length, min, OnErr, OnOk};
 ghost use Rattle.cms_tlv.specs.Spans.{borrowed_spans};
 ghost use Rattle.cms_tlv.specs.Spelling.{join};
 ghost use Rattle.cms_tlv.specs.Writing.{IsHeader};
 ghost use Rattle.cms_fields.specs.Received.{spanned_in};
 
+use crate::indexed::Items;
 use cms_tlv::{BorrowedSpans, Span, header_octets};
 use std::alloc::AllocError;
 
@@ -113,4 +114,16 @@ pub(crate) fn emit_header<S: Sink>(ident: u8, n: u64, kept: &[u8], sink: &mut S)
 {
     let (octets, start) = header_octets(ident, n);
     sink.octets(kept, &octets[start..])
+}
+
+/// How many octets the spans name together, or `u64::MAX` if there are more.
+pub fn spans_len(spans: BorrowedSpans<'_>, kept: &[u8]) -> u64
+    ensures { result ≡ min (length (join (spanned_in kept.now (borrowed_spans spans.entry))))
+        0xFFFF_FFFF_FFFF_FFFF }
+{
+    let mut n: u64 = 0;
+    for span in Items::new(spans) {
+        n = n.saturating_add(span.octets(kept).len() as u64);
+    }
+    n
 }

@@ -6,10 +6,9 @@ ghost use Rattle.cms_scalars.specs.Borrowed.{borrowed_oid};
 ghost use Rattle.cms_message.specs.Algorithms.{AlgorithmIdentifier, algorithm_identifier, algorithm, parameters};
 ghost use Rattle.cms_message.specs.Spanned.{algorithm_identifier_spanned};
 
-use cms_fields::{Field, Opaque, Tagged, Then, Write};
+use cms_fields::{Field, Opaque, Sink, Stop, Tagged, Then, Write};
 use cms_scalars::{Oid, OidSpan};
 use cms_tlv::{Bound, Fault, Input, SEQUENCE, Source};
-use std::alloc::{AllocError, Global};
 use std::marker::Model;
 
 /// `AlgorithmIdentifier ::= SEQUENCE { algorithm OBJECT IDENTIFIER, parameters ANY OPTIONAL }`.
@@ -32,22 +31,8 @@ impl Write for AlgorithmIdentifierSpans {
 
     ghost value = { algorithm_identifier_spanned };
 
-    fn encoded_len(&self, kept: &[u8]) -> u64 {
-        self.0.encoded_len(kept)
-    }
-
-    fn append_with_len(
-        &self,
-        n: u64,
-        alloc: Global,
-        kept: &[u8],
-        out: &mut Vec<u8>,
-    ) -> Result<(), AllocError> {
-        self.0.append_with_len(n, alloc, kept, out)
-    }
-
-    fn lies_in(&self, start: usize, end: usize, kept: &[u8]) -> bool {
-        self.0.lies_in(start, end, kept)
+    fn emit<S: Sink>(&self, kept: &[u8], sink: &mut S) -> Result<(), Stop> {
+        self.0.emit(kept, sink)
     }
 
     fn law() {

@@ -15,11 +15,10 @@ use crate::countersignatures::Countersignatures;
 use crate::signer_info::{
     SignerAtDepth1, SignerAtDepth2, SignerAtDepth3, SignerAtDepth4, SignerInfo, SignerInfoSpans,
 };
-use cms_fields::{AlreadyDer, Choice, Field, Indexed, Items, Last, Opaque, Tagged, Then, Write};
+use cms_fields::{AlreadyDer, Choice, Field, Indexed, Items, Last, Opaque, Sink, Stop, Tagged, Then, Write};
 use cms_scalars::{Oid, OidSpan};
 use cms_setof::{NonEmptySetOf, SetOf};
 use cms_tlv::{Bound, CONTEXT_0, CONTEXT_1, Fault, Input, SEQUENCE, SET, Source};
-use std::alloc::{AllocError, Global};
 use std::marker::Model;
 
 /// `Attribute ::= SEQUENCE { attrType OBJECT IDENTIFIER, attrValues SET OF AttributeValue }`.
@@ -42,22 +41,8 @@ impl Write for AttributeSpans {
 
     ghost value = { attribute_spanned };
 
-    fn encoded_len(&self, kept: &[u8]) -> u64 {
-        self.0.encoded_len(kept)
-    }
-
-    fn append_with_len(
-        &self,
-        n: u64,
-        alloc: Global,
-        kept: &[u8],
-        out: &mut Vec<u8>,
-    ) -> Result<(), AllocError> {
-        self.0.append_with_len(n, alloc, kept, out)
-    }
-
-    fn lies_in(&self, start: usize, end: usize, kept: &[u8]) -> bool {
-        self.0.lies_in(start, end, kept)
+    fn emit<S: Sink>(&self, kept: &[u8], sink: &mut S) -> Result<(), Stop> {
+        self.0.emit(kept, sink)
     }
 
     fn law() {

@@ -11,11 +11,10 @@ ghost use Rattle.cms_message.specs.SignerInfo.{SignerWithin};
 ghost use Rattle.cms_tlv.specs.declared.tags.TheConstants.{SEQUENCE};
 ghost use Rattle.cms_message.specs.Spanned.{unsigned_attribute_spanned, spanned_within};
 
-use cms_fields::{Choice, Field, Fields, Last, Opaque, Selected, Selector, Tagged, Write};
+use cms_fields::{Choice, Field, Fields, Last, Opaque, Selected, Selector, Sink, Stop, Tagged, Write};
 use cms_scalars::{ID_COUNTERSIGNATURE, OidOctets, OidSpan};
 use cms_setof::SetOf;
 use cms_tlv::{Bound, Fault, Input, OBJECT_IDENTIFIER, Reason, SEQUENCE, SET, Source};
-use std::alloc::{AllocError, Global};
 
 /// The type of an attribute whose values are countersignatures.
 #[derive(Drop)]
@@ -43,22 +42,9 @@ impl Write for NoCountersignatures {
 
     ghost value = { spanned_within 0 };
 
-    fn encoded_len(&self, kept: &[u8]) -> u64 {
-        0
-    }
-
-    fn append_with_len(
-        &self,
-        _: u64,
-        alloc: Global,
-        kept: &[u8],
-        out: &mut Vec<u8>,
-    ) -> Result<(), AllocError> {
+    fn emit<S: Sink>(&self, kept: &[u8], sink: &mut S) -> Result<(), Stop> {
+        S::law();
         Ok(())
-    }
-
-    fn lies_in(&self, start: usize, end: usize, _: &[u8]) -> bool {
-        start == end
     }
 
     fn law() {}
@@ -111,22 +97,8 @@ impl<C: Write> Write for UnsignedAttributeSpans<C> {
 
     ghost value = { unsigned_attribute_spanned C.value };
 
-    fn encoded_len(&self, kept: &[u8]) -> u64 {
-        self.0.encoded_len(kept)
-    }
-
-    fn append_with_len(
-        &self,
-        n: u64,
-        alloc: Global,
-        kept: &[u8],
-        out: &mut Vec<u8>,
-    ) -> Result<(), AllocError> {
-        self.0.append_with_len(n, alloc, kept, out)
-    }
-
-    fn lies_in(&self, start: usize, end: usize, kept: &[u8]) -> bool {
-        self.0.lies_in(start, end, kept)
+    fn emit<S: Sink>(&self, kept: &[u8], sink: &mut S) -> Result<(), Stop> {
+        self.0.emit(kept, sink)
     }
 
     fn law() {

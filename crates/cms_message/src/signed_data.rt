@@ -18,14 +18,13 @@ use crate::choices::{
 use crate::digest_algorithms::DigestAlgorithmIdentifiers;
 use crate::signer_info::{SignerInfo, SignerSpans};
 use crate::signer_infos::SignerInfos;
-use cms_fields::{Field, Fields, Gathered, Last, OptionalThen, Tagged, Then, Write};
+use cms_fields::{Field, Fields, Last, OptionalThen, Sink, Stop, Tagged, Then, Write};
 use cms_scalars::{ID_DATA, Integer, IntegerSpan, Octets, OctetsSpan, Oid, OidSpan};
 use cms_setof::SetOf;
 use cms_tlv::{
     Bound, CONTEXT_0, CONTEXT_1, CONTEXT_2, CONTEXT_3, Fault, Input, OCTET_STRING, SEQUENCE, SET,
     Source,
 };
-use std::alloc::{AllocError, Global};
 use std::marker::Model;
 
 /// `EncapsulatedContentInfo ::= SEQUENCE { eContentType OBJECT IDENTIFIER, eContent [0] EXPLICIT OCTET
@@ -59,25 +58,9 @@ impl Write for SignedDataAfterContent {
 
     ghost value = { λ k x. ⟦<AfterContentParts as Write>⟧.value k x.0 };
 
-    fn encoded_len(&self, kept: &[u8]) -> u64 {
+    fn emit<S: Sink>(&self, kept: &[u8], sink: &mut S) -> Result<(), Stop> {
         let SignedDataAfterContent(parts) = self;
-        parts.encoded_len(kept)
-    }
-
-    fn append_with_len(
-        &self,
-        n: u64,
-        alloc: Global,
-        kept: &[u8],
-        out: &mut Vec<u8>,
-    ) -> Result<(), AllocError> {
-        let SignedDataAfterContent(parts) = self;
-        parts.append_with_len(n, alloc, kept, out)
-    }
-
-    fn lies_in(&self, start: usize, end: usize, kept: &[u8]) -> bool {
-        let SignedDataAfterContent(parts) = self;
-        parts.lies_in(start, end, kept)
+        parts.emit(kept, sink)
     }
 
     fn law() {
@@ -152,32 +135,8 @@ impl Write for SignedDataSpans {
 
     ghost value = { signed_data_spanned };
 
-    fn encoded_len(&self, kept: &[u8]) -> u64 {
-        self.0.encoded_len(kept)
-    }
-
-    fn append_with_len(
-        &self,
-        n: u64,
-        alloc: Global,
-        kept: &[u8],
-        out: &mut Vec<u8>,
-    ) -> Result<(), AllocError> {
-        self.0.append_with_len(n, alloc, kept, out)
-    }
-
-    fn gather_with_len(
-        &self,
-        n: u64,
-        alloc: Global,
-        kept: &[u8],
-        out: &mut Gathered,
-    ) -> Result<(), AllocError> {
-        self.0.gather_with_len(n, alloc, kept, out)
-    }
-
-    fn lies_in(&self, start: usize, end: usize, kept: &[u8]) -> bool {
-        self.0.lies_in(start, end, kept)
+    fn emit<S: Sink>(&self, kept: &[u8], sink: &mut S) -> Result<(), Stop> {
+        self.0.emit(kept, sink)
     }
 
     fn law() {

@@ -18,13 +18,10 @@ use crate::attribute::{
     AttributeSet, Attributes, Lend, SignedAttributesSpans, UnsignedAttributesSpans,
 };
 use crate::countersignature::{NoCountersignatures, UnsignedAttributeSpans};
-use cms_fields::{
-    AlreadyDer, Choice, Field, Fields, Last, Only, OpaqueAmong, OptionalThen, Tagged, Then, Write,
-};
+use cms_fields::{AlreadyDer, Choice, Field, Fields, Last, Only, OpaqueAmong, OptionalThen, Sink, Stop, Tagged, Then, Write};
 use cms_scalars::{Integer, IntegerSpan, Octets, OctetsSpan};
 use cms_setof::{NonEmptySetOf, SetOf};
 use cms_tlv::{Bound, CONTEXT_0_PRIMITIVE, Fault, Input, OCTET_STRING, SEQUENCE, Source};
-use std::alloc::{AllocError, Global};
 use std::marker::Model;
 
 /// `Name`, a SEQUENCE, octet for octet.
@@ -69,22 +66,8 @@ impl<C: Write> Write for SignerInfoTail<C> {
 
     ghost value = { λ k x. ⟦<SignerInfoTailParts<C> as Write>⟧.value k x.0 };
 
-    fn encoded_len(&self, kept: &[u8]) -> u64 {
-        self.0.encoded_len(kept)
-    }
-
-    fn append_with_len(
-        &self,
-        n: u64,
-        alloc: Global,
-        kept: &[u8],
-        out: &mut Vec<u8>,
-    ) -> Result<(), AllocError> {
-        self.0.append_with_len(n, alloc, kept, out)
-    }
-
-    fn lies_in(&self, start: usize, end: usize, kept: &[u8]) -> bool {
-        self.0.lies_in(start, end, kept)
+    fn emit<S: Sink>(&self, kept: &[u8], sink: &mut S) -> Result<(), Stop> {
+        self.0.emit(kept, sink)
     }
 
     fn law() {
@@ -133,22 +116,8 @@ impl<C: Write> Write for SignerInfoSpans<C> {
 
     ghost value = { signer_info_spanned C.value };
 
-    fn encoded_len(&self, kept: &[u8]) -> u64 {
-        self.0.encoded_len(kept)
-    }
-
-    fn append_with_len(
-        &self,
-        n: u64,
-        alloc: Global,
-        kept: &[u8],
-        out: &mut Vec<u8>,
-    ) -> Result<(), AllocError> {
-        self.0.append_with_len(n, alloc, kept, out)
-    }
-
-    fn lies_in(&self, start: usize, end: usize, kept: &[u8]) -> bool {
-        self.0.lies_in(start, end, kept)
+    fn emit<S: Sink>(&self, kept: &[u8], sink: &mut S) -> Result<(), Stop> {
+        self.0.emit(kept, sink)
     }
 
     fn law() {
@@ -199,22 +168,8 @@ impl Write for SignerSpans {
 
     ghost value = { signer_spanned };
 
-    fn encoded_len(&self, kept: &[u8]) -> u64 {
-        self.0.encoded_len(kept)
-    }
-
-    fn append_with_len(
-        &self,
-        n: u64,
-        alloc: Global,
-        kept: &[u8],
-        out: &mut Vec<u8>,
-    ) -> Result<(), AllocError> {
-        self.0.append_with_len(n, alloc, kept, out)
-    }
-
-    fn lies_in(&self, start: usize, end: usize, kept: &[u8]) -> bool {
-        self.0.lies_in(start, end, kept)
+    fn emit<S: Sink>(&self, kept: &[u8], sink: &mut S) -> Result<(), Stop> {
+        self.0.emit(kept, sink)
     }
 
     fn law() {

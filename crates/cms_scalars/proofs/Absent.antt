@@ -1,5 +1,5 @@
 -- BOOLEAN DEFAULT FALSE: its laws are those of a BOOLEAN that may be absent.
-use Rattle.std.proofs.Common.{◌≡◌, ◌≢◌, ◌==◌, ℕ, Bool, true, false, List, Option, None, Some, refl, sym, ap, subst, ◌∙◌}
+use Rattle.std.proofs.Common.{◌≡◌, ◌≢◌, ◌==◌, ℕ, Bool, true, false, List, [], length, ◌↔◌, Option, None, Some, refl, sym, ap, subst, ◌∙◌}
 use Rattle.std.specs.Prelude.{◌||◌}
 use Rattle.std.specs.Option.{option_eq}
 use Rattle.std.specs.Cmp.{booleans_Decides, bool_eq_equiv, and_equiv, on_equiv}
@@ -12,13 +12,14 @@ use Rattle.cms_tlv.proofs.SpellingLaws.{maybe_contents}
 use Rattle.cms_fields.specs.FirstOctets.{are_apart}
 use Rattle.cms_fields.specs.Readers.{Begins}
 use Rattle.cms_fields.specs.Canonical.{IsByDer}
-use Rattle.cms_fields.specs.Writing.{HasLength}
+use Rattle.cms_fields.specs.Sinks.{Taking, TakingLaws, Emits}
+use Rattle.cms_fields.specs.Writing.{IsWritten}
 use Rattle.cms_fields.proofs.ReaderLaws.{avoids, maybe_both_read, maybe_begins, pairs}
 use Rattle.cms_fields.proofs.DerLaws.{maybe_by_der}
 use Rattle.cms_scalars.specs.Image.{image}
 use Rattle.cms_scalars.specs.Booleans.{boolean, is_set, default_false, with_default_false, default_false_then_of}
 use Rattle.cms_scalars.proofs.Made.{made_contents, made_contents_read}
-use Rattle.cms_scalars.proofs.Truth.{boolean_reads, boolean_field, boolean_by_der, boolean_length}
+use Rattle.cms_scalars.proofs.Truth.{boolean_reads, boolean_field, boolean_by_der}
 
 -- what is there for a value by DER
 kept : Bool → Option Bool
@@ -92,18 +93,22 @@ module _ {W : Type 0} {q : ℕ → Bool} {t : W → W → Bool} {S : Rules → S
         equivalence = and_equiv (on_equiv (λ (v : Bool × W). v.0) bool_eq_equiv) (on_equiv (λ (v : Bool × W). v.1) h.equivalence);
       }
 
--- what is written for TRUE
-pub true_length : (v : Bool) → v ≡ true → HasLength (default_false der) beq v 3
-true_length v e = subst (λ v. HasLength (default_false der) beq v 3) (sym e) (record {
-  each =
-      λ b w. (let f = boolean_length true in let z : true ≡ w.value = (booleans_Decides true w.value).0 w.same in
-      f.each b (record { value = true; spells = subst (default_false der b) (sym z) w.spells; same = refl }));
-  one =
-      λ small. (let o = (boolean_length true).one small in (
-        o.0,
-        record { value = true; spells = spelled o.1.value o.0 (sym ((booleans_Decides true o.1.value).0 o.1.same)) o.1.spells; same = refl },
-      ));
-})
-  where
-    spelled : (v : Bool) (b : List ℕ) → v ≡ true → boolean der b v → boolean der b true
-    spelled v b e s = subst (boolean der b) e s
+-- what is written for TRUE is what is written for a BOOLEAN
+pub true_alike : (v : Bool) → v ≡ true → (o : List ℕ) → IsWritten (boolean der) beq true o ↔ IsWritten (default_false der) beq v o
+true_alike false e o = absurd cc
+true_alike true e o = (
+  λ w. (let z : true ≡ w.value = (booleans_Decides true w.value).0 w.same in
+      record { value = true; spells = subst (boolean der o) (sym z) w.spells; same = refl }),
+  λ w. (let z : true ≡ w.value = (booleans_Decides true w.value).0 w.same in
+      record { value = true; spells = subst (default_false der o) (sym z) w.spells; same = refl }),
+)
+
+-- for FALSE nothing is
+pub false_emits : {S : Type 0} {t : Taking S} → TakingLaws t → (v : Bool) → v ≡ false → (k : List ℕ) (a : S) → Emits t (default_false der) beq v k a a
+false_emits laws true e k a = absurd cc
+false_emits laws false e k a = record {
+  octets = [];
+  put = laws.nothing k a;
+  written = record { value = false; spells = refl; same = refl };
+  each = λ o w. (let z : false ≡ w.value = (booleans_Decides false w.value).0 w.same in ap length (subst (default_false der o) (sym z) w.spells));
+}

@@ -21,7 +21,8 @@ use Rattle.cms_fields.proofs.FirstOctetLaws.{is_primitive}
 use Rattle.cms_fields.proofs.CanonicalLaws.{canonical_by, to_equal, element_framed}
 use Rattle.cms_fields.proofs.DerLaws.{element_by_der}
 use Rattle.cms_fields.proofs.ReaderLaws.{begins_as}
-use Rattle.cms_fields.proofs.LengthLaws.{canonical_total}
+use Rattle.cms_fields.specs.Sinks.{Taking, Emits, StopsAt}
+use Rattle.cms_fields.proofs.EmitLaws.{canonical_emits, canonical_stops}
 use Rattle.cms_scalars.proofs.Made.{told_reads}
 use Rattle.cms_scalars.specs.Scalars.{bits_of, bits}
 use Rattle.cms_scalars.specs.Bits.{AreZeros, HasNoTrailingZero, IsNamedBits, named_bits, without_trailing_zeros, used_bits, bits_of_contents, is_bit_string, named_bits_of}
@@ -275,37 +276,16 @@ empty_spelled =
       may_follow = (refl, tt);
     }
 
-written : (c v : List ℕ) → IsNamedBits der c v → IsWritten (IsNamedBits der) bytes_eq v c
-written c v k = record { value = v; spells = k; same = (bytes_eq-Decides v v).1 refl }
+module _ {v c : List ℕ} (k : IsNamedBits der c v) where
+  pub bits_emit : {S : Type 0} {t : Taking S} {kept : List ℕ} {a b : S} → t.puts kept a c b → Emits t (IsNamedBits der) bytes_eq v kept a b
+  bits_emit = canonical_emits contents_canonical nat_list_eq_equiv k
 
-length_is : (c v : List ℕ) (n : ℕ) → IsNamedBits der c v → n ≡ min (length c) 0xFFFF_FFFF_FFFF_FFFF → HasLength (IsNamedBits der) bytes_eq v n
-length_is c v n k e = record {
-  each =
-      λ b w. e ∙ ap (λ t. min (length t) 0xFFFF_FFFF_FFFF_FFFF)
-      (sym (to_equal contents_canonical b c w.value v w.spells k ((bytes_eq-Decides w.value v).1 (sym ((bytes_eq-Decides v w.value).0 w.same)))));
-  one = λ small. (c, written c v k);
-}
+  pub bits_stop : {S : Type 0} (t : Taking S) (n : ℕ) → t.stops (n + length c) → StopsAt t (IsNamedBits der) bytes_eq v n
+  bits_stop = canonical_stops contents_canonical nat_list_eq_equiv k
 
--- what was appended has the length of each encoding
-pub bits_total : (v a b : List ℕ) (n : ℕ) → Writes (IsNamedBits der) bytes_eq v a b → IsLengthOf (IsNamedBits der) bytes_eq v n → length b ≡ length a + n
-bits_total v a b n w o = canonical_total contents_canonical nat_list_eq_equiv w o
+pub no_bits : (v : List ℕ) → v ≡ [] → IsNamedBits der (0 ∷ []) v
+no_bits v e = subst (IsNamedBits der (0 ∷ [])) (sym e) empty_spelled
 
-pub empty_length : (v : List ℕ) → v ≡ [] → HasLength (IsNamedBits der) bytes_eq v 1
-empty_length v e = length_is (0 ∷ []) v 1 (subst (IsNamedBits der (0 ∷ [])) (sym e) empty_spelled) (omega arith)
-
-pub empty_writes : (v a b : List ℕ) → v ≡ [] → b ≡ a ++ 0 ∷ [] → Writes (IsNamedBits der) bytes_eq v a b
-empty_writes v a b e f = record { octets = 0 ∷ []; appended = f; written = written (0 ∷ []) v (subst (IsNamedBits der (0 ∷ [])) (sym e) empty_spelled) }
-
-module _ (v front : List ℕ) (last : ℕ) (o : AreOctets (front ++ last ∷ [])) (l : 0 < last) (e : v ≡ without_trailing_zeros (bits (front ++ last ∷ []))) where
-  some_spelled : IsNamedBits der (trailing_zeros w8 last ∷ (front ++ last ∷ [])) v
-  some_spelled = subst (IsNamedBits der (trailing_zeros w8 last ∷ (front ++ last ∷ []))) (sym e) (significant_spelled front last o l)
-
-  pub some_length : (n : ℕ) → n ≡ min (length front + 2) 0xFFFF_FFFF_FFFF_FFFF → HasLength (IsNamedBits der) bytes_eq v n
-  some_length n f = length_is (trailing_zeros w8 last ∷ (front ++ last ∷ [])) v n some_spelled (let k = length-append front (last ∷ []) in omega arith)
-
-  pub some_writes : (a b : List ℕ) → b ≡ ((a ++ trailing_zeros w8 last ∷ []) ++ front) ++ last ∷ [] → Writes (IsNamedBits der) bytes_eq v a b
-  some_writes a b f = record {
-    octets = trailing_zeros w8 last ∷ (front ++ last ∷ []);
-    appended = f ∙ (append_assoc (a ++ trailing_zeros w8 last ∷ []) front (last ∷ []) ∙ append_assoc a (trailing_zeros w8 last ∷ []) (front ++ last ∷ []));
-    written = written (trailing_zeros w8 last ∷ (front ++ last ∷ [])) v some_spelled;
-  }
+pub some_bits : (v front : List ℕ) (last : ℕ) (o : AreOctets (front ++ last ∷ [])) (l : 0 < last) → v ≡ without_trailing_zeros (bits (front ++ last ∷ []))
+    → IsNamedBits der (trailing_zeros w8 last ∷ (front ++ last ∷ [])) v
+some_bits v front last o l e = subst (IsNamedBits der (trailing_zeros w8 last ∷ (front ++ last ∷ []))) (sym e) (significant_spelled front last o l)

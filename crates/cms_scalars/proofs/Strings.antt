@@ -1,5 +1,5 @@
 -- OCTET STRING: its readers and its spelling.
-use Rattle.std.proofs.Common.{◌≡◌, ◌≢◌, inl, inr, ◌⊎◌, ℕ, zero, suc, ◌+◌, ◌/◌, ◌%◌, Bool, true, false, not, ◌&&◌, List, [], ◌∷◌, ◌++◌, length, min, Result, Ok, Err, refl, sym, ap, subst, ◌∙◌, arith}
+use Rattle.std.proofs.Common.{◌≡◌, ◌≢◌, ◌↔◌, inl, inr, ◌⊎◌, ℕ, zero, suc, ◌+◌, ◌/◌, ◌%◌, Bool, true, false, not, ◌&&◌, List, [], ◌∷◌, ◌++◌, length, min, Result, Ok, Err, refl, sym, ap, subst, ◌∙◌, arith}
 use Rattle.std.specs.Prelude.{bytes_eq, ◌||◌, ◌==◌}
 use Rattle.std.specs.List.{AllByRecursion, AllZip}
 use Rattle.std.specs.Cmp.Lexicographic.{nat_list_eq_equiv}
@@ -18,7 +18,7 @@ use Rattle.cms_tlv.proofs.Fields.{rows_reads}
 use Rattle.cms_tlv.proofs.SpellingLaws.{primitive_field, members_contents, element_by}
 use Rattle.cms_fields.specs.FirstOctets.{is_primitive_octet, are_apart}
 use Rattle.cms_fields.specs.Canonical.{IsByDer, IsDerFramed}
-use Rattle.cms_fields.specs.Writing.{HasLength, IsLengthOf, Writes}
+use Rattle.cms_fields.specs.Writing.{IsWritten}
 use Rattle.cms_fields.proofs.FirstOctetLaws.{is_primitive}
 use Rattle.cms_scalars.proofs.ConstructedOctets.{with_bit_6}
 use Rattle.cms_fields.proofs.ReaderLaws.{begins_as, tagged_field, tagged_reads}
@@ -187,35 +187,9 @@ module _ (id : ℕ) (s : is_primitive_octet id ≡ true) where
   string_framed = (let f = element_framed id (is_primitive id s).0 in record { framed = f.framed })
 
 -- What is written: the octets, in one piece.
-module _ {v : List ℕ} (are : AreOctets v) where
-  pub octets_length : (n : ℕ) → n ≡ min (length v) 0xFFFF_FFFF_FFFF_FFFF → HasLength octets bytes_eq v n
-  octets_length n e = record {
-    each = λ o w. e ∙ ap (λ t. min (length t) 0xFFFF_FFFF_FFFF_FFFF) ((bytes_eq-Decides v w.value).0 w.same ∙ sym w.spells.0);
-    one = λ small. (v, record { value = v; spells = (refl, are); same = (bytes_eq-Decides v v).1 refl });
-  }
-
-  pub octets_written : {a b : List ℕ} → b ≡ a ++ v → Writes octets bytes_eq v a b
-  octets_written e = record { octets = v; appended = e; written = record { value = v; spells = (refl, are); same = (bytes_eq-Decides v v).1 refl } }
-
-module _ (id : ℕ) {v : List ℕ} where
-  pub string_length : (n : ℕ) → HasLength (element der id octets) bytes_eq v n → HasLength (octet_string id der) bytes_eq v n
-  unfolding octet_string
-  string_length n h =
-      record {
-        each = λ o w. h.each o (record { value = w.value; spells = w.spells; same = w.same });
-        one = λ small. (let o = h.one small in (o.0, record { value = o.1.value; spells = o.1.spells; same = o.1.same }));
-      }
-
-  pub string_part : (n : ℕ) → IsLengthOf (octet_string id der) bytes_eq v n → IsLengthOf (element der id octets) bytes_eq v n
-  unfolding octet_string
-  string_part n k = (k.0, record { value = k.1.value; spells = k.1.spells; same = k.1.same }, k.2)
-
-  pub string_written : {a b : List ℕ} → Writes (element der id octets) bytes_eq v a b → Writes (octet_string id der) bytes_eq v a b
-  unfolding octet_string
-  string_written h =
-      record {
-        octets = h.octets;
-        appended = h.appended;
-        written = record
-            { value = h.written.value; spells = h.written.spells; same = h.written.same };
-      }
+pub string_alike : (id : ℕ) {v : List ℕ} (o : List ℕ) → IsWritten (element der id octets) bytes_eq v o ↔ IsWritten (octet_string id der) bytes_eq v o
+unfolding octet_string
+string_alike id o = (
+  λ w. record { value = w.value; spells = w.spells; same = w.same },
+  λ w. record { value = w.value; spells = w.spells; same = w.same },
+)

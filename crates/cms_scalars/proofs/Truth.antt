@@ -9,7 +9,6 @@ use Rattle.std.specs.Cmp.{booleans_Decides, bool_eq_equiv}
 use Rattle.cms_tlv.specs.Law.{Reads, IsField}
 use Rattle.cms_tlv.proofs.SpellingLaws.{primitive_field}
 use Rattle.cms_fields.specs.Canonical.{IsCanonical, IsByDer, IsDerFramed}
-use Rattle.cms_fields.specs.Writing.{IsWritten, HasLength}
 use Rattle.cms_fields.proofs.CanonicalLaws.{canonical_by, to_equal, element_framed}
 use Rattle.cms_fields.proofs.DerLaws.{element_by_der}
 use Rattle.cms_fields.proofs.ReaderLaws.{begins_as}
@@ -100,28 +99,3 @@ boolean_framed = element_framed 0x01 (is_primitive 0x01 refl).0
 
 pub boolean_field : (m : Rules) → IsField (λ t. (t == 0x01) ≡ true) (boolean m)
 boolean_field m = begins_as 0x01 (primitive_field m 0x01 (is_primitive 0x01 refl).0 (is_primitive 0x01 refl).1 (one_value m))
-
--- What is written: FF for TRUE, and 00 for FALSE.
-abbrev pub octets_for : Bool → List ℕ
-octets_for true = 0x01 ∷ 0x01 ∷ 0xff ∷ []
-octets_for false = 0x01 ∷ 0x01 ∷ 0x00 ∷ []
-
-spelled_by_der : (v : Bool) → boolean der (octets_for v) v
-spelled_by_der true = true_by_der
-spelled_by_der false = false_by_der
-
-written : (v : Bool) → IsWritten (boolean der) beq v (octets_for v)
-written v = record { value = v; spells = spelled_by_der v; same = (booleans_Decides v v).1 refl }
-
-three : (v : Bool) → length (octets_for v) ≡ 3
-three true = refl
-three false = refl
-
-pub boolean_length : (v : Bool) → HasLength (boolean der) beq v 3
-boolean_length v = record {
-  each =
-      λ b w. (let e = to_equal boolean_by_der.canonical b (octets_for v) w.value v w.spells (spelled_by_der v)
-      ((booleans_Decides w.value v).1 (sym ((booleans_Decides v w.value).0 w.same))) in let n : length b ≡ 3 = ap length e ∙ three v in
-      omega arith);
-  one = λ small. (octets_for v, written v);
-}

@@ -2,7 +2,7 @@
 //!
 //! The value is the list of bits up to the last 1, which is not what was received, so that this is no
 //! `Primitive`. Any octets show such a list, and so writing asks for nothing.
-ghost use Rattle.std.specs.Prelude.{◌≡◌, ◌==◌, ◌↔◌, ◌++◌, ◌∷◌, [], ◌<◌, ℕ, List, min, slice_index, IsTrue, IsNone, IfSome, length, true, false, bytes_eq};
+ghost use Rattle.std.specs.Prelude.{◌≡◌, ◌==◌, ◌↔◌, ◌+◌, ◌++◌, ◌∷◌, [], ◌<◌, OnOk, OnErr, ℕ, List, min, slice_index, IsTrue, IsNone, IfSome, length, true, false, bytes_eq};
 ghost use Rattle.std.specs.Int.{w8, trailing_zeros};
 ghost use Rattle.cms_tlv.specs.Headers.{AreOctets};
 ghost use Rattle.cms_tlv.specs.Reading.{refuse};
@@ -13,9 +13,8 @@ ghost use Rattle.cms_scalars.specs.Bits.{IsNamedBits, without_trailing_zeros, us
 ghost use Rattle.cms_fields.specs.Grammar.{unread};
 ghost use Rattle.cms_scalars.specs.Grammar.{named_bits_type};
 
-use cms_fields::{Field, Tagged, Write};
+use cms_fields::{Field, Sink, Stop, Tagged, Write};
 use cms_tlv::{BIT_STRING, Bound, Fault, Input, Reason, Source, Span};
-use std::alloc::{AllocError, Global};
 
 /// Where the contents of a BIT STRING with a named-bit list lie.
 ///
@@ -35,22 +34,8 @@ impl Write for NamedBitsSpan {
 
     ghost value = { bits_in };
 
-    fn encoded_len(&self, kept: &[u8]) -> u64 {
-        Tagged::<BIT_STRING, _>(BitContents(self.span)).encoded_len(kept)
-    }
-
-    fn append_with_len(
-        &self,
-        n: u64,
-        alloc: Global,
-        kept: &[u8],
-        out: &mut Vec<u8>,
-    ) -> Result<(), AllocError> {
-        Tagged::<BIT_STRING, _>(BitContents(self.span)).append_with_len(n, alloc, kept, out)
-    }
-
-    fn lies_in(&self, start: usize, end: usize, kept: &[u8]) -> bool {
-        Tagged::<BIT_STRING, _>(BitContents(self.span)).lies_in(start, end, kept)
+    fn emit<S: Sink>(&self, kept: &[u8], sink: &mut S) -> Result<(), Stop> {
+        Tagged::<BIT_STRING, _>(BitContents(self.span)).emit(kept, sink)
     }
 
     fn law() {}
@@ -68,36 +53,10 @@ impl Write for BitContents {
 
     ghost value = { λ k x. bits_of_contents (octets_in k x.0.start x.0.end) };
 
-    fn encoded_len(&self, kept: &[u8]) -> u64 {
+    fn emit<S: Sink>(&self, kept: &[u8], sink: &mut S) -> Result<(), Stop> {
         match significant(self.0.octets(kept)) {
-            Some(octets) => (octets.front.len() as u64).saturating_add(2),
-            None => 1,
-        }
-    }
-
-    fn append_with_len(
-        &self,
-        _: u64,
-        alloc: Global,
-        kept: &[u8],
-        out: &mut Vec<u8>,
-    ) -> Result<(), AllocError> {
-        match significant(self.0.octets(kept)) {
-            Some(octets) => {
-                out.push(octets.last.trailing_zeros() as u8)?;
-                out.extend_from_slice(octets.front)?;
-                out.push(octets.last)?;
-            }
-            None => out.push(0)?,
-        }
-        Ok(())
-    }
-
-    fn lies_in(&self, start: usize, end: usize, kept: &[u8]) -> bool {
-        let there = &kept[start..end];
-        match significant(self.0.octets(kept)) {
-            Some(octets) => octets.are_contents(there),
-            None => there == b"\0".as_slice(),
+            Some(octets) => octets.emit_contents(kept, sink),
+            None => sink.octets(kept, &[0]),
         }
     }
 
@@ -178,21 +137,18 @@ impl<'a> BitOctets<'a> {
         }
     }
 
-    /// Whether `contents` are these octets, after the number of zeros at their end.
-    fn are_contents(&self, contents: &[u8]) -> bool
-        ensures { result ≡ true → contents.now
-            ≡ trailing_zeros w8 self.now.last ∷ (self.now.front.now ++ self.now.last ∷ []) }
+    /// Gives a sink these octets after the number of zeros at their end.
+    fn emit_contents<S: Sink>(&self, kept: &[u8], sink: &mut S) -> Result<(), Stop>
+        ensures ok { OnOk result (S.taking.puts kept.now sink.old
+            (trailing_zeros w8 self.now.last ∷ (self.now.front.now ++ self.now.last ∷ []))
+            sink.new) }
+        ensures stops { OnErr result (S.taking.stops (S.taking.count sink.old + length
+            (trailing_zeros w8 self.now.last ∷ (self.now.front.now ++ self.now.last ∷ [])))) }
     {
-        let [unused, front @ .., last] = contents else {
-            return false;
-        };
-        if u32::from(*unused) != self.last.trailing_zeros() {
-            return false;
-        }
-        if *last != self.last {
-            return false;
-        }
-        front == self.front
+        S::law();
+        sink.octets(kept, &[self.last])?;
+        sink.octets(kept, self.front)?;
+        sink.octets(kept, &[self.last.trailing_zeros() as u8])
     }
 }
 

@@ -10,12 +10,14 @@ ghost use Rattle.cms_tlv.specs.Law.{rules_of};
 ghost use Rattle.cms_tlv.specs.RefusalReasons.{SaysWhy};
 ghost use Rattle.cms_tlv.specs.Spelling.{der};
 ghost use Rattle.cms_tlv.specs.declared.tags.TheConstants.{BOOLEAN};
+ghost use mathlib.Core.Bool.{beq};
+ghost use Rattle.cms_fields.specs.Sinks.{Emits, StopsAt};
 ghost use Rattle.cms_scalars.specs.Booleans.{boolean, boolean_of, is_one_octet, is_true, IsTrueInDer};
 ghost use Rattle.cms_scalars.specs.Grammar.{boolean_type};
 
-use cms_fields::{Field, Kind, Primitive, Scalar, Write};
+use cms_fields::{Field, Kind, Primitive, Scalar, Sink, Stop, Write};
 use cms_tlv::{BOOLEAN, Bound, Fault, Input, Reason, Source};
-use std::alloc::{AllocError, Global};
+use std::alloc::AllocError;
 
 /// Reads a BOOLEAN: 00 is false, and any other octet is true. E10, after its contents, if they are not
 /// one octet. Under a strict bound the length is judged by DER, but the octet of TRUE is not.
@@ -70,26 +72,12 @@ impl Write for Boolean {
 
     ghost value = { λ k x. x.0 };
 
-    fn encoded_len(&self, _: &[u8]) -> u64 {
-        3
-    }
-
-    fn append_with_len(
-        &self,
-        _: u64,
-        _: Global,
-        _: &[u8],
-        out: &mut Vec<u8>,
-    ) -> Result<(), AllocError> {
+    fn emit<S: Sink>(&self, kept: &[u8], sink: &mut S) -> Result<(), Stop> {
         if self.0 {
-            put_true(out)
+            emit_true(kept, sink)
         } else {
-            put_false(out)
+            emit_false(kept, sink)
         }
-    }
-
-    fn lies_in(&self, start: usize, end: usize, kept: &[u8]) -> bool {
-        self.0 && is_true_in(start, end, kept)
     }
 
     fn law() {}
@@ -147,22 +135,20 @@ pub fn put_true(out: &mut Vec<u8>) -> Result<(), AllocError>
     out.extend_from_slice(b"\x01\x01\xff")
 }
 
-/// Whether TRUE in DER lies in `kept` from `start` up to `end`.
-pub(crate) fn is_true_in(start: usize, end: usize, kept: &[u8]) -> bool
-    requires order { start ≤ end }
-    requires end { end ≤ length kept.now }
-    ensures octets { result ≡ true
-        → take end kept.now ≡ take start kept.now ++ (0x01 ∷ 0x01 ∷ 0xff ∷ []) }
-    ensures spells { boolean der (0x01 ∷ 0x01 ∷ 0xff ∷ []) true }
+/// Gives a sink TRUE in DER.
+pub(crate) fn emit_true<S: Sink>(kept: &[u8], sink: &mut S) -> Result<(), Stop>
+    ensures ok { OnOk result (Emits S.taking (boolean der) beq true kept.now sink.old sink.new) }
+    ensures stops { OnErr result (StopsAt S.taking (boolean der) beq true
+        (S.taking.count sink.old)) }
 {
-    &kept[start..end] == b"\x01\x01\xff".as_slice()
+    sink.octets(kept, b"\x01\x01\xff")
 }
 
-/// Appends FALSE in DER. If memory runs out, `out` is as it was.
-fn put_false(out: &mut Vec<u8>) -> Result<(), AllocError>
-    ensures ok { OnOk result (out.new.items ≡ out.old.items ++ (0x01 ∷ 0x01 ∷ 0x00 ∷ [])) }
-    ensures spells { boolean der (0x01 ∷ 0x01 ∷ 0x00 ∷ []) false }
-    ensures err { OnErr result (out.new.items ≡ out.old.items) }
+/// Gives a sink FALSE in DER.
+fn emit_false<S: Sink>(kept: &[u8], sink: &mut S) -> Result<(), Stop>
+    ensures ok { OnOk result (Emits S.taking (boolean der) beq false kept.now sink.old sink.new) }
+    ensures stops { OnErr result (StopsAt S.taking (boolean der) beq false
+        (S.taking.count sink.old)) }
 {
-    out.extend_from_slice(b"\x01\x01\x00")
+    sink.octets(kept, b"\x01\x01\x00")
 }

@@ -5,10 +5,9 @@ ghost use Rattle.cms_scalars.specs.Booleans.{default_false, is_set};
 ghost use Rattle.cms_fields.specs.Grammar.{unread};
 ghost use Rattle.cms_scalars.specs.Grammar.{default_false_then};
 
-use crate::booleans::{Boolean, is_true_in, put_true};
-use cms_fields::{Fields, OptionalThen, Then, Write};
+use crate::booleans::{Boolean, emit_true};
+use cms_fields::{Fields, OptionalThen, Sink, Stop, Then, Write};
 use cms_tlv::{Bound, Fault, Input, Source};
-use std::alloc::{AllocError, Global};
 
 /// A BOOLEAN that is FALSE if it is absent, then the other fields, which begin with other octets. In
 /// DER it is left out if it is FALSE (X.690, 11.5).
@@ -22,22 +21,8 @@ impl<B: Write> Write for DefaultFalseThen<B> {
 
     ghost value = { λ k x. (x.0, B.value k x.1) };
 
-    fn encoded_len(&self, kept: &[u8]) -> u64 {
-        Then(DefaultFalse(self.0), &self.1).encoded_len(kept)
-    }
-
-    fn append_with_len(
-        &self,
-        n: u64,
-        alloc: Global,
-        kept: &[u8],
-        out: &mut Vec<u8>,
-    ) -> Result<(), AllocError> {
-        Then(DefaultFalse(self.0), &self.1).append_with_len(n, alloc, kept, out)
-    }
-
-    fn lies_in(&self, start: usize, end: usize, kept: &[u8]) -> bool {
-        Then(DefaultFalse(self.0), &self.1).lies_in(start, end, kept)
+    fn emit<S: Sink>(&self, kept: &[u8], sink: &mut S) -> Result<(), Stop> {
+        Then(DefaultFalse(self.0), &self.1).emit(kept, sink)
     }
 
     fn law() {
@@ -57,25 +42,12 @@ impl Write for DefaultFalse {
 
     ghost value = { λ k x. x.0 };
 
-    fn encoded_len(&self, _: &[u8]) -> u64 {
-        if self.0 { 3 } else { 0 }
-    }
-
-    fn append_with_len(
-        &self,
-        _: u64,
-        _: Global,
-        _: &[u8],
-        out: &mut Vec<u8>,
-    ) -> Result<(), AllocError> {
-        if self.0 { put_true(out) } else { Ok(()) }
-    }
-
-    fn lies_in(&self, start: usize, end: usize, kept: &[u8]) -> bool {
+    fn emit<S: Sink>(&self, kept: &[u8], sink: &mut S) -> Result<(), Stop> {
+        S::law();
         if self.0 {
-            is_true_in(start, end, kept)
+            emit_true(kept, sink)
         } else {
-            start == end
+            Ok(())
         }
     }
 

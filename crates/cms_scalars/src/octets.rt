@@ -27,8 +27,8 @@ ghost use Rattle.cms_fields.specs.Grammar.{unread};
 ghost use Rattle.cms_scalars.specs.Grammar.{octet_string_type};
 
 use cms_fields::{
-    Field, Gathered, Indexed, Items, Kind, Primitive, Scalar, Tagged, Write, append_spans,
-    element_len,
+    Field, Indexed, Items, Kind, Primitive, Scalar, Sink, Stop, Tagged, Write, emit_spans,
+    spans_len,
 };
 use cms_tlv::{BorrowedSpans, Bound, Fault, Input, OCTET_STRING, Reason, Source, Span, Spans};
 use std::alloc::{AllocError, Global};
@@ -48,48 +48,11 @@ impl Write for Parts {
 
     ghost value = { λ k x. join (spanned_in k x.0) };
 
-    fn encoded_len(&self, kept: &[u8]) -> u64 {
-        total(self.0.borrowed(), kept)
-    }
-
-    fn append_with_len(
-        &self,
-        _: u64,
-        alloc: Global,
-        kept: &[u8],
-        out: &mut Vec<u8>,
-    ) -> Result<(), AllocError> {
-        append_spans(self.0.borrowed(), kept, out)
-    }
-
-    fn gather_with_len(
-        &self,
-        n: u64,
-        alloc: Global,
-        kept: &[u8],
-        out: &mut Gathered,
-    ) -> Result<(), AllocError> {
-        out.append_spans(self.0.borrowed(), n, alloc, kept)
-    }
-
-    fn lies_in(&self, start: usize, end: usize, _: &[u8]) -> bool {
-        let spans = self.0.borrowed();
-        spans.len() == 1 && spans.get(0) == Some(Span { start, end })
+    fn emit<S: Sink>(&self, kept: &[u8], sink: &mut S) -> Result<(), Stop> {
+        emit_spans(self.0.borrowed(), kept, sink)
     }
 
     fn law() {}
-}
-
-/// How many octets the spans name together, or `u64::MAX` if there are more.
-fn total(spans: BorrowedSpans<'_>, kept: &[u8]) -> u64
-    ensures { result ≡ min (length (join (spanned_in kept.now (borrowed_spans spans.entry))))
-        0xFFFF_FFFF_FFFF_FFFF }
-{
-    let mut n: u64 = 0;
-    for span in Items::new(spans) {
-        n = n.saturating_add(span.octets(kept).len() as u64);
-    }
-    n
 }
 
 /// Any contents octets.
@@ -132,32 +95,8 @@ impl<const ID: u8> Write for OctetsSpan<ID> {
 
     ghost value = { λ k x. join (parts_in k x) };
 
-    fn encoded_len(&self, kept: &[u8]) -> u64 {
-        element_len(&self.0, kept)
-    }
-
-    fn append_with_len(
-        &self,
-        n: u64,
-        alloc: Global,
-        kept: &[u8],
-        out: &mut Vec<u8>,
-    ) -> Result<(), AllocError> {
-        Tagged::<ID, _>(&self.0).append_with_len(n, alloc, kept, out)
-    }
-
-    fn gather_with_len(
-        &self,
-        n: u64,
-        alloc: Global,
-        kept: &[u8],
-        out: &mut Gathered,
-    ) -> Result<(), AllocError> {
-        Tagged::<ID, _>(&self.0).gather_with_len(n, alloc, kept, out)
-    }
-
-    fn lies_in(&self, start: usize, end: usize, kept: &[u8]) -> bool {
-        Tagged::<ID, _>(&self.0).lies_in(start, end, kept)
+    fn emit<S: Sink>(&self, kept: &[u8], sink: &mut S) -> Result<(), Stop> {
+        Tagged::<ID, _>(&self.0).emit(kept, sink)
     }
 
     fn law() {}
@@ -345,10 +284,10 @@ impl<'a> Octets<'a> {
     }
 
     /// How many octets all pieces have together, or `u64::MAX` if there are more.
-    pub fn total(&self) -> u64
+    pub fn spans_len(&self) -> u64
         ensures { result ≡ min (length (join (borrowed_pieces self.now))) 0xFFFF_FFFF_FFFF_FFFF }
     {
-        total(self.spans, self.kept)
+        spans_len(self.spans, self.kept)
     }
 }
 

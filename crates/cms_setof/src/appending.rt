@@ -1,5 +1,5 @@
 //! The octets that spans name, one after another.
-ghost use Rattle.std.specs.Prelude.{◌≡◌, ◌++◌, length, min, OnOk};
+ghost use Rattle.std.specs.Prelude.{◌≡◌, ◌++◌, OnOk};
 ghost use Rattle.cms_tlv.specs.Spans.{borrowed_spans};
 ghost use Rattle.cms_tlv.specs.Spelling.{join};
 ghost use Rattle.cms_fields.specs.Received.{spanned_in};
@@ -33,16 +33,4 @@ pub(crate) fn push_all(more: BorrowedSpans<'_>, spans: &mut Vec<Span>) -> Result
         spans.push(span)?;
     }
     Ok(())
-}
-
-/// How many octets the spans name together, or `u64::MAX` if there are more.
-pub(crate) fn total(spans: BorrowedSpans<'_>, kept: &[u8]) -> u64
-    ensures { result ≡ min (length (join (spanned_in kept.now (borrowed_spans spans.entry))))
-        0xFFFF_FFFF_FFFF_FFFF }
-{
-    let mut n: u64 = 0;
-    for span in Items::new(spans) {
-        n = n.saturating_add(span.octets(kept).len() as u64);
-    }
-    n
 }

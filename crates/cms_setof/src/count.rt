@@ -1,8 +1,7 @@
 //! A sink that counts.
 ghost use Rattle.std.specs.Prelude.{◌≡◌, ◌≤◌, ◌+◌, length};
 
-use crate::appending::total;
-use cms_fields::{Sink, Stop};
+use cms_fields::{Sink, Stop, spans_len};
 use cms_tlv::{BorrowedSpans, Span};
 
 /// A string is borrowed only if it has at least this many octets.
@@ -40,7 +39,7 @@ impl Sink for Count {
     }
 
     fn spans_at_once(&mut self, kept: &[u8], spans: BorrowedSpans<'_>) -> Result<bool, Stop> {
-        let octets = total(spans, kept);
+        let octets = spans_len(spans, kept);
         let sum = self.octets.checked_add(octets).ok_or(Stop)?;
         if octets == u64::MAX {
             return Err(Stop);

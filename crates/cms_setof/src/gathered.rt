@@ -15,9 +15,10 @@ ghost use Rattle.cms_tlv.specs.Frames.{IsDerFrame};
 ghost use Rattle.cms_setof.specs.Gathering.{Parts, octets_of_parts};
 ghost use Rattle.cms_setof.specs.internal.Merging.{AreSorted};
 
-use crate::appending::{push_all, total};
+use crate::appending::push_all;
 use crate::front::Front;
 use crate::pouring::{copy_around, pour_around};
+use cms_fields::spans_len;
 use cms_tlv::{BorrowedSpans, Fault, Output, Span};
 use std::alloc::{AllocError, Global};
 use std::marker::Model;
@@ -129,7 +130,7 @@ impl Gathered {
     fn len(&self, kept: &[u8]) -> u64
         ensures { result ≡ min (length (octets_of_parts kept.now self.now)) 0xFFFF_FFFF_FFFF_FFFF }
     {
-        let borrowed = total(BorrowedSpans::new(&self.borrowed), kept);
+        let borrowed = spans_len(BorrowedSpans::new(&self.borrowed), kept);
         let before = self.before.octets().len() as u64;
         let after = self.after.octets().len() as u64;
         before.saturating_add(borrowed).saturating_add(after)

@@ -2,9 +2,8 @@
 ghost use Rattle.std.specs.Prelude.{◌≡◌, ◌+◌, ◌++◌, length};
 ghost use Rattle.cms_setof.specs.Gathering.{octets_of_parts};
 
-use crate::appending::total;
 use crate::gathered::Gathered;
-use cms_fields::{Sink, Stop};
+use cms_fields::{Sink, Stop, spans_len};
 use cms_tlv::{BorrowedSpans, Span};
 use std::alloc::Global;
 
@@ -29,7 +28,7 @@ impl Gathering {
         self.lend != 0
             && self.gathered.borrowed.is_empty()
             && self.gathered.after.octets().is_empty()
-            && total(spans, kept) == self.lend
+            && spans_len(spans, kept) == self.lend
     }
 }
 
@@ -60,7 +59,7 @@ impl Sink for Gathering {
         if !self.borrows(kept, spans) {
             return Ok(false);
         }
-        let octets = total(spans, kept);
+        let octets = spans_len(spans, kept);
         let count = self.count.checked_add(octets).ok_or(Stop)?;
         if octets == u64::MAX {
             return Err(Stop);

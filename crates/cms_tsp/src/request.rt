@@ -10,13 +10,10 @@ ghost use Rattle.cms_tsp.specs.Requests.{MessageImprint, TimeStampReq, hash_algo
 ghost use Rattle.cms_tsp.specs.Spans.{after_nonce};
 
 use crate::laws::request_laws;
-use cms_fields::{
-    Fields, Gathered, Last, Only, OpaqueAmong, OptionalThen, Tagged, Then, Write, read_after_header,
-};
+use cms_fields::{Fields, Last, Only, OpaqueAmong, OptionalThen, Sink, Stop, Tagged, Then, Write, read_after_header};
 use cms_message::{AlgorithmIdentifier, AlgorithmIdentifierSpans};
 use cms_scalars::{DefaultFalseThen, Integer, IntegerSpan, Octets, OctetsSpan, Oid, OidSpan};
 use cms_tlv::{Bound, CONTEXT_0, Fault, Input, OCTET_STRING, SEQUENCE, Source};
-use std::alloc::{AllocError, Global};
 use std::marker::Model;
 
 /// `MessageImprint ::= SEQUENCE { hashAlgorithm AlgorithmIdentifier, hashedMessage OCTET STRING }`.
@@ -52,32 +49,8 @@ impl Write for TimeStampReqTail {
 
     ghost value = { λ k x. ⟦<RequestParts as Write>⟧.value k x.0 };
 
-    fn encoded_len(&self, kept: &[u8]) -> u64 {
-        self.0.encoded_len(kept)
-    }
-
-    fn append_with_len(
-        &self,
-        n: u64,
-        alloc: Global,
-        kept: &[u8],
-        out: &mut Vec<u8>,
-    ) -> Result<(), AllocError> {
-        self.0.append_with_len(n, alloc, kept, out)
-    }
-
-    fn gather_with_len(
-        &self,
-        n: u64,
-        alloc: Global,
-        kept: &[u8],
-        out: &mut Gathered,
-    ) -> Result<(), AllocError> {
-        self.0.gather_with_len(n, alloc, kept, out)
-    }
-
-    fn lies_in(&self, start: usize, end: usize, kept: &[u8]) -> bool {
-        self.0.lies_in(start, end, kept)
+    fn emit<S: Sink>(&self, kept: &[u8], sink: &mut S) -> Result<(), Stop> {
+        self.0.emit(kept, sink)
     }
 
     fn law() {

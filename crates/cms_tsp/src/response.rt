@@ -12,13 +12,10 @@ ghost use Rattle.cms_scalars.specs.Borrowed.{borrowed_integer};
 ghost use Rattle.cms_tsp.specs.Responses.{PkiStatusInfo, TimeStampResp, status, status_string, fail_info, status_info, token, status_agrees, time_stamp_resp_fields};
 
 use crate::laws::response_laws;
-use cms_fields::{
-    Fields, Gathered, Only, OpaqueAmong, OptionalThen, Tagged, Then, Write, read_after_header,
-};
+use cms_fields::{Fields, Only, OpaqueAmong, OptionalThen, Sink, Stop, Tagged, Then, Write, read_after_header};
 use cms_message::{ContentInfo, ContentInfoSpans};
 use cms_scalars::{Integer, IntegerSpan, NamedBits, NamedBitsSpan};
 use cms_tlv::{Bound, Fault, Input, SEQUENCE, Source};
-use std::alloc::{AllocError, Global};
 use std::marker::Model;
 
 /// `PKIFreeText`, a SEQUENCE, octet for octet.
@@ -51,32 +48,8 @@ impl Write for TimeStampRespFields {
 
     ghost value = { λ k x. ⟦<ResponseParts as Write>⟧.value k x.0 };
 
-    fn encoded_len(&self, kept: &[u8]) -> u64 {
-        self.0.encoded_len(kept)
-    }
-
-    fn append_with_len(
-        &self,
-        n: u64,
-        alloc: Global,
-        kept: &[u8],
-        out: &mut Vec<u8>,
-    ) -> Result<(), AllocError> {
-        self.0.append_with_len(n, alloc, kept, out)
-    }
-
-    fn gather_with_len(
-        &self,
-        n: u64,
-        alloc: Global,
-        kept: &[u8],
-        out: &mut Gathered,
-    ) -> Result<(), AllocError> {
-        self.0.gather_with_len(n, alloc, kept, out)
-    }
-
-    fn lies_in(&self, start: usize, end: usize, kept: &[u8]) -> bool {
-        self.0.lies_in(start, end, kept)
+    fn emit<S: Sink>(&self, kept: &[u8], sink: &mut S) -> Result<(), Stop> {
+        self.0.emit(kept, sink)
     }
 
     fn law() {

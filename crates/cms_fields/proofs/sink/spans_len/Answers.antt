@@ -2,7 +2,7 @@ use Rattle.std.proofs.Common.{List, length, ap, arith}
 use Rattle.cms_tlv.specs.declared.span.Span.{Span}
 use Rattle.cms_tlv.specs.Spelling.{join}
 use Rattle.cms_fields.specs.Received.{spanned_in}
-use Rattle.cms_setof.proofs.appending.total.Goals as goal
+use Rattle.cms_fields.proofs.sink.spans_len.Goals as goal
 
 pub returns : goal.returns
 returns c =

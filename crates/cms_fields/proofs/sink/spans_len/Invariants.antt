@@ -3,7 +3,7 @@ use Rattle.cms_tlv.specs.Spans.{borrowed_spans}
 use Rattle.cms_tlv.specs.Spelling.{join}
 use Rattle.cms_fields.specs.Indexed.{left}
 use Rattle.cms_fields.specs.Received.{spanned_in}
-use Rattle.cms_setof.proofs.appending.total.Given as goal
+use Rattle.cms_fields.proofs.sink.spans_len.Given as goal
 
 abbrev pub invariant-loop-span : goal.invariant-loop-span
 invariant-loop-span l =
