@@ -2,8 +2,9 @@
 //! meets what its calls require.
 
 use cms_check::{Given, Verifier, check};
-use cms_fields::{put, read};
+use cms_fields::read;
 use cms_message::{ContentInfo, ContentInfoSpans, SignedData};
+use cms_setof::put;
 use cms_tlv::{Bound, Fault, Slice, Source};
 use std::alloc::Global;
 

@@ -19,7 +19,7 @@ use Rattle.cms_tlv.proofs.Ends.{close_complete, ends_reads, peek_same, peek_end,
 use Rattle.cms_tlv.proofs.Sequences.{cut_first}
 use Rattle.cms_fields.specs.Canonical.{IsByDer}
 use Rattle.cms_fields.specs.Readers.{Begins}
-use Rattle.cms_fields.specs.Writing.{HasLength}
+use Rattle.cms_fields.specs.Sinks.{Taking, TakingLaws, Emits}
 use Rattle.cms_setof.proofs.SameLaws.{members_equiv}
 use Rattle.cms_message.specs.Countersignatures.{too_deep_of, no_countersignatures_of, no_countersignatures}
 
@@ -109,10 +109,13 @@ module _ (bd : Bound) {a b : State} {o : Option ℕ} (next : RefinesWithValue pl
   unfolding no_countersignatures_of
   is_end t = subst (λ r. Simulates (no_countersignatures_of bd) a r b) (ap (λ k. cond k (too_deep_of bd) (ended bd)) t) (reaches_bind _ next.reaches)
 
-pub none_length : HasLength (no_countersignatures.spelled der) (no_countersignatures.same) [] 0
-none_length = record {
-  each = λ b w. let z = (only_none der b w.value w.spells).0 in rw z refl;
-  one = λ small. ([], record { value = []; spells = none_spelled der; same = refl });
+pub none_emits : {S : Type 0} {t : Taking S} → TakingLaws t → (k : List ℕ) (a : S)
+    → Emits t (no_countersignatures.spelled der) (no_countersignatures.same) [] k a a
+none_emits laws k a = record {
+  octets = [];
+  put = laws.nothing k a;
+  written = record { value = []; spells = none_spelled der; same = refl };
+  each = λ b w. ap length (only_none der b w.value w.spells).0;
 }
 
 -- The octets before a refusal say why.

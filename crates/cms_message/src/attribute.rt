@@ -15,7 +15,9 @@ use crate::countersignatures::Countersignatures;
 use crate::signer_info::{
     SignerAtDepth1, SignerAtDepth2, SignerAtDepth3, SignerAtDepth4, SignerInfo, SignerInfoSpans,
 };
-use cms_fields::{AlreadyDer, Choice, Field, Indexed, Items, Last, Opaque, Sink, Stop, Tagged, Then, Write};
+use cms_fields::{
+    AlreadyDer, Choice, Field, Indexed, Items, Last, Opaque, Sink, Stop, Tagged, Then, Write,
+};
 use cms_scalars::{Oid, OidSpan};
 use cms_setof::{NonEmptySetOf, SetOf};
 use cms_tlv::{Bound, CONTEXT_0, CONTEXT_1, Fault, Input, SEQUENCE, SET, Source};

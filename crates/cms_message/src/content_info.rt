@@ -12,8 +12,9 @@ ghost use Rattle.cms_message.specs.ContentInfo.{ContentInfo, content_type, conte
 
 use crate::laws::content_info_laws;
 use crate::signed_data::{SignedData, SignedDataSpans};
-use cms_fields::{Constrained, Constraint, Last, Tagged, Then, Write, put, read_after_header};
+use cms_fields::{Constrained, Constraint, Last, Tagged, Then, Write, read_after_header};
 use cms_scalars::{ID_SIGNED_DATA, Oid, OidOctets};
+use cms_setof::put;
 use cms_tlv::{Bound, CONTEXT_0, Fault, Input, OBJECT_IDENTIFIER, Reason, SEQUENCE, Source};
 use std::alloc::{AllocError, Global};
 use std::marker::Model;

@@ -11,7 +11,9 @@ ghost use Rattle.cms_message.specs.SignerInfo.{SignerWithin};
 ghost use Rattle.cms_tlv.specs.declared.tags.TheConstants.{SEQUENCE};
 ghost use Rattle.cms_message.specs.Spanned.{unsigned_attribute_spanned, spanned_within};
 
-use cms_fields::{Choice, Field, Fields, Last, Opaque, Selected, Selector, Sink, Stop, Tagged, Write};
+use cms_fields::{
+    Choice, Field, Fields, Last, Opaque, Selected, Selector, Sink, Stop, Tagged, Write,
+};
 use cms_scalars::{ID_COUNTERSIGNATURE, OidOctets, OidSpan};
 use cms_setof::SetOf;
 use cms_tlv::{Bound, Fault, Input, OBJECT_IDENTIFIER, Reason, SEQUENCE, SET, Source};

@@ -18,7 +18,10 @@ use crate::attribute::{
     AttributeSet, Attributes, Lend, SignedAttributesSpans, UnsignedAttributesSpans,
 };
 use crate::countersignature::{NoCountersignatures, UnsignedAttributeSpans};
-use cms_fields::{AlreadyDer, Choice, Field, Fields, Last, Only, OpaqueAmong, OptionalThen, Sink, Stop, Tagged, Then, Write};
+use cms_fields::{
+    AlreadyDer, Choice, Field, Fields, Last, Only, OpaqueAmong, OptionalThen, Sink, Stop, Tagged,
+    Then, Write,
+};
 use cms_scalars::{Integer, IntegerSpan, Octets, OctetsSpan};
 use cms_setof::{NonEmptySetOf, SetOf};
 use cms_tlv::{Bound, CONTEXT_0_PRIMITIVE, Fault, Input, OCTET_STRING, SEQUENCE, Source};

@@ -6,9 +6,9 @@ ghost use Rattle.cms_tlv.specs.Spelling.{element, members, der};
 ghost use Rattle.cms_fields.specs.Writing.{Writes};
 ghost use Rattle.cms_setof.specs.Same.{same_members};
 
-use cms_fields::{Field, Opaque, Tagged, Then, put, read};
+use cms_fields::{Field, Opaque, Tagged, Then, read};
 use cms_scalars::{Integer, IntegerSpan, OidSpan, read_integer};
-use cms_setof::SetOf;
+use cms_setof::{SetOf, put};
 use cms_tlv::{Bound, Fault, INTEGER, Input, SEQUENCE, SET, Slice, Source, Span};
 use std::alloc::Global;
 
