@@ -284,7 +284,7 @@ impl<'a> Octets<'a> {
     }
 
     /// How many octets all pieces have together, or `u64::MAX` if there are more.
-    pub fn spans_len(&self) -> u64
+    pub fn total(&self) -> u64
         ensures { result ≡ min (length (join (borrowed_pieces self.now))) 0xFFFF_FFFF_FFFF_FFFF }
     {
         spans_len(self.spans, self.kept)

@@ -100,7 +100,7 @@ pub fn put<T: Write>(
 
 /// Appends an element with the identifier octet `ident` that holds the encoding of `contents`. An error
 /// means out of memory; `out` is then as it was.
-pub(crate) fn put_element<T: Write>(
+pub fn put_element<T: Write>(
     ident: u8,
     contents: &T,
     alloc: Global,

@@ -138,7 +138,7 @@ impl Gathered {
 
     /// Appends everything; what is borrowed is copied from `kept`. An error means out of memory; `out` is
     /// then as it was.
-    pub(crate) fn append_to(&self, kept: &[u8], out: &mut Vec<u8>) -> Result<(), AllocError>
+    pub fn append_to(&self, kept: &[u8], out: &mut Vec<u8>) -> Result<(), AllocError>
         ensures ok { OnOk result (out.new.items
             ≡ out.old.items ++ octets_of_parts kept.now self.now) }
         ensures err { OnErr result (out.new.items ≡ out.old.items) }

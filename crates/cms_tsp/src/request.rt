@@ -10,7 +10,10 @@ ghost use Rattle.cms_tsp.specs.Requests.{MessageImprint, TimeStampReq, hash_algo
 ghost use Rattle.cms_tsp.specs.Spans.{after_nonce};
 
 use crate::laws::request_laws;
-use cms_fields::{Fields, Last, Only, OpaqueAmong, OptionalThen, Sink, Stop, Tagged, Then, Write, read_after_header};
+use cms_fields::{
+    Fields, Last, Only, OpaqueAmong, OptionalThen, Sink, Stop, Tagged, Then, Write,
+    read_after_header,
+};
 use cms_message::{AlgorithmIdentifier, AlgorithmIdentifierSpans};
 use cms_scalars::{DefaultFalseThen, Integer, IntegerSpan, Octets, OctetsSpan, Oid, OidSpan};
 use cms_tlv::{Bound, CONTEXT_0, Fault, Input, OCTET_STRING, SEQUENCE, Source};

@@ -12,7 +12,9 @@ ghost use Rattle.cms_scalars.specs.Borrowed.{borrowed_integer};
 ghost use Rattle.cms_tsp.specs.Responses.{PkiStatusInfo, TimeStampResp, status, status_string, fail_info, status_info, token, status_agrees, time_stamp_resp_fields};
 
 use crate::laws::response_laws;
-use cms_fields::{Fields, Only, OpaqueAmong, OptionalThen, Sink, Stop, Tagged, Then, Write, read_after_header};
+use cms_fields::{
+    Fields, Only, OpaqueAmong, OptionalThen, Sink, Stop, Tagged, Then, Write, read_after_header,
+};
 use cms_message::{ContentInfo, ContentInfoSpans};
 use cms_scalars::{Integer, IntegerSpan, NamedBits, NamedBitsSpan};
 use cms_tlv::{Bound, Fault, Input, SEQUENCE, Source};

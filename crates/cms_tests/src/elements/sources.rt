@@ -5,8 +5,8 @@ ghost use Rattle.cms_tlv.specs.Spans.{LiesIn};
 use crate::asserts::{assert_holds, assert_same};
 use crate::streams::Counting;
 use cms_tlv::{
-    Bound, Fault, Header, Input, MAX_LIMIT, Reason, Slice, Source, Span, Watched, after_header,
-    header_len, put_header,
+    Bound, Fault, Header, Input, MAX_LIMIT, Reason, Slice, Source, Span, Watched, header_len,
+    header_octets, put_header,
 };
 use std::alloc::{AllocError, Global};
 use std::process::Abort;
@@ -666,24 +666,14 @@ fn headers_put(rt: HostRuntime) -> Result<(), Fail> {
     Ok(())
 }
 
-/// A header is found where it lies, and not elsewhere, nor if an octet of it is another or is missing.
+/// The octets of a header end an array.
 #[test]
-fn headers_found(rt: HostRuntime) -> Result<(), Fail> {
-    for (ident, n, want, _) in HEADERS {
-        let mut kept = vec![in rt.alloc(); 0xee; 1]?;
-        put_header(&mut kept, *ident, *n)?;
-        let end = kept.len();
-        assert_same(&rt, after_header(&kept, 1, *ident, *n), Some(end), want);
-        assert_same(&rt, after_header(&kept, 0, *ident, *n), None, want);
-        assert_same(&rt, after_header(&kept, end + 1, *ident, *n), None, want);
-        assert_same(
-            &rt,
-            after_header(&kept[..end - 1], 1, *ident, *n),
-            None,
-            want,
-        );
-        kept[end - 1] ^= 1;
-        assert_same(&rt, after_header(&kept, 1, *ident, *n), None, want);
+fn octets_of_headers(rt: HostRuntime) -> Result<(), Fail> {
+    for (ident, n, want, length) in HEADERS {
+        let (octets, start) = header_octets(*ident, *n);
+        assert_same(&rt, octets.len() - start, *length as usize, want);
+        let octets = hex::encode(rt.alloc(), octets.get(start..).unwrap_or(&[]))?;
+        assert_same(&rt, octets.as_str(), *want, "the header");
     }
     Ok(())
 }

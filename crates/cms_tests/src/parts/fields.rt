@@ -4,7 +4,8 @@ ghost use Rattle.cms_tlv.specs.Spelling.{ber};
 
 use crate::asserts::{assert_holds, assert_same};
 use crate::parts::sources::{AT_A_TIME, LIMIT, source};
-use cms_fields::{Field, put_with_len, read, spelled_values_are_values};
+use cms_fields::{Field, read, spelled_values_are_values};
+use cms_setof::{encoded_len, put};
 use cms_tlv::{Bound, Fault, MAX_LIMIT, Reason};
 use std::alloc::Global;
 use std::process::Abort;
@@ -54,8 +55,8 @@ pub fn rewritten<T: Field>(
 {
     let (field, kept) = received::<T>(alloc, octets, at_a_time, limit)?;
     let mut out = Vec::new(alloc);
-    let written = field.encoded_len(&kept);
-    match put_with_len(&field, written, alloc, &kept, &mut out) {
+    let written = encoded_len(&field, &kept).octets;
+    match put(&field, alloc, &kept, &mut out) {
         Ok(()) if out.len() as u64 == written => Ok(out),
         Ok(()) => Err(Fault::Write { written }),
         Err(_) => Err(Fault::OutOfMemory),

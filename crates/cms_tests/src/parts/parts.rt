@@ -1,15 +1,13 @@
 //! Calls by which a record reads its parts, and writes them.
 
-use crate::asserts::assert_same;
+use crate::asserts::{assert_holds, assert_same};
 use crate::parts::fields::received;
 use crate::parts::sources::{AT_A_TIME, LIMIT, source};
-use cms_fields::{
-    Gathered, Last, Tagged, Then, Write, append_element, append_spans, element_len,
-    read_after_header, read_der, read_with_span,
-};
+use cms_fields::{Last, Tagged, Then, read_after_header, read_der, read_with_span};
 use cms_sample::TextSpan;
-use cms_scalars::{Integer, IntegerSpan, Octets};
-use cms_tlv::{BorrowedSpans, Bound, Fault, Input, Reason, SEQUENCE, Source, Span, Watched};
+use cms_scalars::{Integer, IntegerSpan, Octets, OctetsSpan};
+use cms_setof::{Gathered, encoded_len, gather, is_encoding, put, put_element};
+use cms_tlv::{Bound, Fault, Input, OCTET_STRING, Reason, SEQUENCE, Source, Span, Watched};
 use std::alloc::Global;
 use std::process::Abort;
 use std::test::Fail;
@@ -115,7 +113,7 @@ fn octets_in_der(rt: HostRuntime) -> Result<(), Fail> {
     Ok(())
 }
 
-/// A `Pair` in hexadecimal, and whether it lies in these octets as it is written in DER.
+/// A `Pair` in hexadecimal, and whether these octets are what is written for it.
 const PAIRS: &[(&str, bool)] = &[
     ("300602010504016a", true),
     ("30060201050401ff", true),
@@ -125,13 +123,14 @@ const PAIRS: &[(&str, bool)] = &[
 ];
 
 #[test]
-fn pairs_lie_where_they_were_read(rt: HostRuntime) -> Result<(), Fail> {
+fn pairs_are_their_encodings(rt: HostRuntime) -> Result<(), Fail> {
     for (input, is_so) in PAIRS {
         let octets = hex::decode(rt.alloc(), input)?;
         let (pair, kept) = received::<Pair>(rt.alloc(), &octets, 1, LIMIT)?;
-        assert_same(&rt, pair.lies_in(0, kept.len(), &kept), *is_so, input);
-        let is_elsewhere = pair.lies_in(1, kept.len(), &kept) || pair.lies_in(0, 7, &kept);
-        assert_same(&rt, is_elsewhere, false, input);
+        assert_same(&rt, is_encoding(&pair, &kept), *is_so, input);
+        let mut longer = Vec::from_slice(rt.alloc(), &kept)?;
+        longer.push(0)?;
+        assert_same(&rt, is_encoding(&pair, &longer), false, input);
     }
     Ok(())
 }
@@ -142,16 +141,16 @@ fn elements_appended(rt: HostRuntime) -> Result<(), Fail> {
     let octets = hex::decode(rt.alloc(), "308002020080048101610000")?;
     let (pair, kept) = received::<Pair>(rt.alloc(), &octets, 1, LIMIT)?;
     let mut out = Vec::from_slice(rt.alloc(), b"\xff")?;
-    append_element(0xa1, &pair.0, rt.alloc(), &kept, &mut out)?;
+    put_element(0xa1, &pair.0, rt.alloc(), &kept, &mut out)?;
     let want = b"\xff\xa1\x07\x02\x02\x00\x80\x04\x01\x61".as_slice();
     assert_same(&rt, out.as_slice(), want, "the element");
-    assert_same(&rt, element_len(&pair.0, &kept), 9, "its length");
-    pair.0.append(rt.alloc(), &kept, &mut out)?;
+    put(&pair.0, rt.alloc(), &kept, &mut out)?;
     let all = b"\xff\xa1\x07\x02\x02\x00\x80\x04\x01\x61\x02\x02\x00\x80\x04\x01\x61".as_slice();
     assert_same(&rt, out.as_slice(), all, "the element and its contents");
-    let mut gathered = Gathered::with_capacity(rt.alloc(), 1)?;
-    gathered.append_element(0xa1, &pair.0, rt.alloc(), &kept)?;
-    assert_poured(&rt, &gathered, &kept, want.get(1..).unwrap_or(&[]))
+    assert_same(&rt, encoded_len(&pair.0, &kept).octets, 7, "their length");
+    let gathered = gather(&pair, encoded_len(&pair, &kept), rt.alloc(), &kept)?;
+    let want = b"\x30\x07\x02\x02\x00\x80\x04\x01\x61".as_slice();
+    assert_poured(&rt, &gathered, &kept, want)
 }
 
 /// A span is borrowed, and written in one piece.
@@ -179,55 +178,55 @@ fn assert_poured(
     Ok(())
 }
 
-#[test]
-fn spans_appended(rt: HostRuntime) -> Result<(), Fail> {
-    let spans = [
-        Span { start: 2, end: 3 },
-        Span { start: 1, end: 1 },
-        Span { start: 0, end: 2 },
-    ];
-    let mut out = Vec::from_slice(rt.alloc(), b"\xff")?;
-    append_spans(BorrowedSpans::new(&spans), b"\x61\x62\x63\x64", &mut out)?;
-    assert_same(
-        &rt,
-        out.as_slice(),
-        b"\xff\x63\x61\x62".as_slice(),
-        "appended",
-    );
-    Ok(())
+/// A string.
+type Text = OctetsSpan<OCTET_STRING>;
+
+/// A SEQUENCE of three strings.
+type Texts = Tagged<SEQUENCE, Then<Text, Then<Text, Last<Text>>>>;
+
+/// How many octets a long string has: enough to be borrowed.
+const LONG: usize = 65_536;
+
+/// A short string in a segment, and two that are long enough to be borrowed, the first in two segments.
+fn texts(alloc: Global) -> Result<Vec<u8>, Fail> {
+    let text = vec![in alloc; 0x61; LONG]?;
+    let mut octets = Vec::from_slice(
+        alloc,
+        b"\x30\x80\x24\x80\x04\x01\x62\x00\x00\x24\x80\x04\x01\x61\x04\x82\xff\xff",
+    )?;
+    octets.extend_from_slice(&text[1..])?;
+    octets.extend_from_slice(b"\x00\x00\x04\x83\x01\x00\x00")?;
+    octets.extend_from_slice(&text)?;
+    octets.extend_from_slice(b"\x00\x00")?;
+    Ok(octets)
 }
 
-/// A string that is long enough to be borrowed, and others before and after it.
+/// What is written for them.
+fn texts_in_der(alloc: Global) -> Result<Vec<u8>, Fail> {
+    let text = vec![in alloc; 0x61; LONG]?;
+    let mut octets = Vec::from_slice(
+        alloc,
+        b"\x30\x83\x02\x00\x0d\x04\x01\x62\x04\x83\x01\x00\x00",
+    )?;
+    octets.extend_from_slice(&text)?;
+    octets.extend_from_slice(b"\x04\x83\x01\x00\x00")?;
+    octets.extend_from_slice(&text)?;
+    Ok(octets)
+}
+
+/// One string is borrowed, and the others are copied.
 #[test]
-fn spans_gathered(rt: HostRuntime) -> Result<(), Fail> {
-    let mut kept = vec![in rt.alloc(); 0x61; 65_536]?;
-    kept.extend_from_slice(b"\x62\x63")?;
-    let long = [Span {
-        start: 0,
-        end: 65_536,
-    }];
-    let short = [
-        Span {
-            start: 65_537,
-            end: 65_538,
-        },
-        Span {
-            start: 65_536,
-            end: 65_537,
-        },
-    ];
-    let mut gathered = Gathered::with_capacity(rt.alloc(), 2)?;
-    let mut want = Vec::new(rt.alloc());
-    for (spans, n) in [
-        (short.as_slice(), 2),
-        (long.as_slice(), 65_536),
-        (long.as_slice(), 65_536),
-        (short.as_slice(), 2),
-    ] {
-        let spans = BorrowedSpans::new(spans);
-        gathered.append_spans(spans, n, rt.alloc(), &kept)?;
-        append_spans(spans, &kept, &mut want)?;
-    }
-    assert_same(&rt, want.len(), 131_076, "how many octets");
-    assert_poured(&rt, &gathered, &kept, &want)
+fn long_strings_gathered(rt: HostRuntime) -> Result<(), Fail> {
+    let octets = texts(rt.alloc())?;
+    let want = texts_in_der(rt.alloc())?;
+    let (texts, kept) = received::<Texts>(rt.alloc(), &octets, LONG, 1 << 20)?;
+    let len = encoded_len(&texts, &kept);
+    assert_same(&rt, len.octets, want.len() as u64, "how many octets");
+    assert_same(&rt, len.long_string, LONG as u64, "how many are borrowed");
+    let gathered = gather(&texts, len, rt.alloc(), &kept)?;
+    assert_poured(&rt, &gathered, &kept, &want)?;
+    let mut out = Vec::new(rt.alloc());
+    put(&texts, rt.alloc(), &kept, &mut out)?;
+    assert_holds(&rt, out.as_slice() == want.as_slice(), "what is put");
+    Ok(())
 }

@@ -5,7 +5,7 @@ use crate::parts::fields::{Accepted, assert_accepted, received, rewritten};
 use crate::parts::sources::LIMIT;
 use cms_fields::{Primitive, Received, Tagged, Write};
 use cms_sample::TextSpan;
-use cms_setof::{SetOf, ascends};
+use cms_setof::{SetOf, ascends, is_encoding};
 use cms_tlv::Span;
 use std::alloc::{AllocError, Global};
 use std::process::Abort;
@@ -40,7 +40,7 @@ fn sets_accepted(rt: HostRuntime) -> Result<(), Fail> {
     assert_accepted::<Texts>(&rt, ACCEPTED)
 }
 
-/// Sets in hexadecimal, and whether they lie in these octets as they are written in DER.
+/// Sets in hexadecimal, and whether these octets are what is written for them.
 const SETS: &[(&str, bool)] = &[
     ("3100", true),
     ("3103040161", true),
@@ -51,11 +51,11 @@ const SETS: &[(&str, bool)] = &[
 ];
 
 #[test]
-fn sets_lie_where_they_were_read(rt: HostRuntime) -> Result<(), Fail> {
+fn sets_are_their_encodings(rt: HostRuntime) -> Result<(), Fail> {
     for (input, is_so) in SETS {
         let octets = hex::decode(rt.alloc(), input)?;
         let (set, kept) = received::<Texts>(rt.alloc(), &octets, 1, LIMIT)?;
-        assert_same(&rt, set.lies_in(0, kept.len(), &kept), *is_so, input);
+        assert_same(&rt, is_encoding(&set, &kept), *is_so, input);
     }
     Ok(())
 }

@@ -1,6 +1,6 @@
 use Rattle.std.proofs.Common.{◌≡◌, ◌++◌, length, drop, inl, inr, ap, subst, sym, ◌∙◌, arith}
 use Rattle.cms_tlv.specs.Spelling.{ber}
-use Rattle.cms_fields.specs.Gathering.{octets_of_parts}
+use Rattle.cms_setof.specs.Gathering.{octets_of_parts}
 use Rattle.cms_canon.specs.Kinds.{whole_message}
 use Rattle.cms_canon.specs.Whole.{Whole}
 use Rattle.cms_canon.proofs.Canonicalised.{der_of_message}
