@@ -1,5 +1,5 @@
-//! Records put together from their parts: how a part is read, how it is written in DER, and the laws
-//! that tie both to its spelling (ITU-T X.690).
+//! Records put together from their parts: how a part is read, how it gives its DER to a sink, and the
+//! laws that tie both to its spelling (ITU-T X.690).
 //!
 //! A record is a type, the term of its parts, and needs no reader, no writer and no proof of its own:
 //!
@@ -11,9 +11,9 @@
 //! let attribute = read(&mut source, &Bound::top());
 //! let (_, kept) = source.finish();
 //! let attribute: AttributeSpans = attribute.ok()?;
-//! let mut out = Vec::new(alloc);
-//! put(&attribute, alloc, &kept, &mut out).ok()?;
 //! ```
+//!
+//! `cms_setof` has what is made of it: its length, and its DER.
 //!
 //! One element is a `Field`, and what lies between a header and its end is `Fields`. The laws of both
 //! are the contract of `Write::law`:
