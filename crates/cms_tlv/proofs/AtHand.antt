@@ -1,7 +1,7 @@
 -- Whole elements among octets that are at hand.
 use Rattle.std.proofs.Common.{◌≡◌, ◌≢◌, take, drop, length-drop, min, slice_index_or, length-append, true, not, eqb, ◌&&◌, ℕ, zero, suc, ◌+◌, ◌-◌, ◌*◌, ◌%◌, ◌<◌, ◌≤◌, List, [], ◌∷◌, ◌++◌, length, refl, sym, ap, subst, ◌∙◌, arith, append_assoc}
 use Rattle.cms_tlv.specs.Headers.{AreOctets, IsConstructed, low, IsLength, short, long, IsShortLength, BeginsWithLength, big_endian}
-use Rattle.std.proofs.lemmas.List.{append-nil, take_all, take-take, length-take, take-append-drop, length-take-le}
+use Rattle.std.proofs.lemmas.List.{append-nil, take-take, length-take, take-append-drop, length-take-le}
 use Rattle.std.proofs.Math.Seq.{take-append_seam}
 use Rattle.cms_tlv.specs.Opaque.{HasItsForm, IsFramed, primitive, constructed, AreFramed, none, more}
 use Rattle.cms_tlv.specs.internal.Whole.{AreWhole, HasWhole, HasHeader, begins_value}
@@ -118,10 +118,6 @@ whole_passed {octets = octets} {rest = rest} h d e =
 
 pub rest_fits : {levels : ℕ} {octets rest : List ℕ} → HasRest levels octets rest → length rest ≤ length octets
 rest_fits {rest = rest} h = let k = ap length h.parts in omega (arith, k, length-append h.passed rest)
-
--- where no fewer than all are whole
-pub all_whole : (levels : ℕ) (xs : List ℕ) (n : ℕ) → AreWhole levels (take n xs) → length xs ≤ n → AreWhole levels xs
-all_whole levels xs n w l = subst (AreWhole levels) (take_all n xs l) w
 
 -- those among the first m octets
 pub within_room : (levels room m : ℕ) (xs : List ℕ) (n : ℕ) → m ≡ min room (length xs) → n ≤ length (take m xs)

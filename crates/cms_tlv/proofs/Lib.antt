@@ -1,6 +1,7 @@
 -- Laws that crates above cite.
 pub mod SourceLaws
 mod AtHand
+mod Walks
 mod FoundGives
 pub mod PassLaws
 mod WholeGives

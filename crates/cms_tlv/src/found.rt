@@ -8,7 +8,7 @@ ghost use Rattle.cms_tlv.specs.internal.Found.{IsFoundHeader, IsPrimitive, IsWho
 
 use crate::opaque::{MAX_LEVELS, is_constructed};
 use crate::source::PIECE;
-use crate::whole::{DEPTH, begins_value, short_length, whole};
+use crate::whole::{DEPTH, are_whole, begins_value, short_length};
 
 /// What was found.
 #[derive(Clone, Copy)]
@@ -114,7 +114,7 @@ impl Seek for ElementIn {
         if self.room <= behind {
             return None;
         }
-        if is_constructed(first) && whole(&rest[..len], MAX_LEVELS - 1, DEPTH) < len {
+        if is_constructed(first) && !are_whole(&rest[..len], MAX_LEVELS - 1, DEPTH) {
             return None;
         }
         Some(Found {

@@ -1,8 +1,8 @@
 //! Opaque elements: kept octet for octet, with the framing of DER.
 //!
-//! Elements are read by recursion, with the levels left as its measure: a stack of ends would be as
-//! fast, and its invariant would say the definition again. A length that is not the shortest is E15
-//! inside signed attributes, at every depth, since E15 is judged before E13.
+//! Elements that are not at hand are read by recursion, with the levels left as its measure: a stack of
+//! ends would be as fast, and its invariant would say the definition again. A length that is not the
+//! shortest is E15 inside signed attributes, at every depth, since E15 is judged before E13.
 ghost use Rattle.std.specs.Prelude.{◌≡◌, ◌%◌, ◌/◌, ◌==◌};
 ghost use Rattle.cms_tlv.specs.Reading.{framing_fault, is_framed, has_its_form};
 
