@@ -18,4 +18,3 @@ pub mod IndexedLaws
 mod DerReads
 pub mod WhyFields
 pub mod GrammarLaws
-pub mod KeptLaws

@@ -1,20 +1,19 @@
 -- What is written for a value, put together from what is written for its parts.
-use Rattle.std.proofs.Common.{◌≡◌, ℕ, suc, ◌+◌, ◌^◌, ◌<◌, ◌≤◌, List, [], ◌∷◌, ◌++◌, length, min, refl, sym, ◌∙◌, ap, subst, arith, ◌⊎◌, ◌↔◌, Bool, true, Option, None, Some, Result, Ok, Err, OnOk, OnErr, append_assoc}
+use Rattle.std.proofs.Common.{◌≡◌, ℕ, suc, ◌+◌, ◌^◌, ◌<◌, ◌≤◌, List, [], ◌∷◌, ◌++◌, length, min, refl, sym, ◌∙◌, ap, subst, arith, ◌⊎◌, ◌↔◌, Bool, true, Result, Ok, Err, OnOk, OnErr, append_assoc}
 use mathlib.Core.Logic.{inl, inr}
 use mathlib.Core.Bool.{◌&&◌}
 use Rattle.std.specs.Prelude.{bytes_eq}
-use Rattle.std.specs.Option.{option_eq}
-use Rattle.std.specs.Cmp.{IsEquivalence, first_so, second_so}
+use Rattle.std.specs.Cmp.{IsEquivalence}
 use Rattle.std.proofs.lemmas.Slice.Eq.{bytes_eq-Decides}
 use Rattle.std.proofs.lemmas.List.{append-nil, length-append}
 use Rattle.std.proofs.lemmas.Bool.{cases_lt}
 use Rattle.cms_tlv.specs.Headers.{IsShortLength}
 use Rattle.cms_tlv.specs.Frames.{of_short_length}
-use Rattle.cms_tlv.specs.Spelling.{der, Spelling, element, ◌⨟◌, optional}
+use Rattle.cms_tlv.specs.Spelling.{der, Spelling, element, ◌⨟◌}
 use Rattle.cms_tlv.specs.Writing.{AppendsHeader}
 use Rattle.cms_tlv.proofs.SpellingLaws.{IsField, field_cut}
 use Rattle.cms_fields.specs.Canonical.{IsCanonical}
-use Rattle.cms_fields.specs.Writing.{IsWritten, Writes, HasLength, Grew}
+use Rattle.cms_fields.specs.Writing.{IsWritten, Writes, HasLength}
 use Rattle.cms_fields.proofs.CanonicalLaws.{both_true}
 
 -- of a result that is Ok, from two facts
@@ -27,16 +26,7 @@ pub on_err_each : {T E P : Type 0} (r : Result T E) → P → OnErr r P
 on_err_each (Ok x) p = tt
 on_err_each (Err e) p = p
 
-pub grew_on : (a b c : List ℕ) → Grew a b → Grew b c → Grew a c
-grew_on a b c p q = (p.0 ++ q.0, q.1 ∙ ap (λ (t : List ℕ). t ++ q.0) p.1 ∙ append_assoc a p.0 q.0)
-
-pub same_grew : (a b : List ℕ) → b ≡ a → Grew a b
-same_grew a b e = ([], e ∙ sym (append-nil a))
-
 module _ {V : Type 0} {R : Spelling V} {s : V → V → Bool} {v : V} where
-  pub writes_grew : {a b : List ℕ} → Writes R s v a b → Grew a b
-  writes_grew h = (h.octets, h.appended)
-
   pub element_written : (id : ℕ) {l o : List ℕ} → IsShortLength l (length o) → IsWritten R s v o → IsWritten (element der id R) s v (id ∷ (l ++ o))
   element_written id {l} {o} p w = record { value = w.value; spells = (o, of_short_length o p, w.spells); same = w.same }
 
@@ -54,13 +44,6 @@ module _ {V : Type 0} {R : Spelling V} {s : V → V → Bool} {v : V} where
       let e : n ≡ min (length q.octets) 0xFFFF_FFFF_FFFF_FFFF = k.each q.octets q.written in
       let l1 : length c ≡ length b + length q.octets = ap length q.appended ∙ length-append b q.octets in
       let l2 : length b ≡ length a + suc (length h.0) = ap length h.2 ∙ length-append a (id ∷ h.0) in
-      element_of id n h q (omega arith)
-
-  -- an element, from how many octets were appended
-  pub counted_element_writes : (id n : ℕ) {a b c : List ℕ} → AppendsHeader id n a b → Writes R s v b c → length c ≡ length b + n
-      → Writes (element der id R) s v a c
-  counted_element_writes id n {a} {b} {c} h q e =
-      let l : length c ≡ length b + length q.octets = ap length q.appended ∙ length-append b q.octets in
       element_of id n h q (omega arith)
 
 module _ {V : Type 0} (R : Spelling V) (s : V → V → Bool) (v : V) where
@@ -94,67 +77,6 @@ module _ {V : Type 0} (R : Spelling V) (s : V → V → Bool) (v : V) where
 module _ {V W : Type 0} {R : Spelling V} {S : Spelling W} {s : V → V → Bool} {t : W → W → Bool} {v : V} {w : W} where
   pub then_written : {o q : List ℕ} → IsWritten R s v o → IsWritten S t w q → IsWritten (R ⨟ S) (λ (x y : V × W). s x.0 y.0 && t x.1 y.1) (v, w) (o ++ q)
   then_written {o} {q} g h = record { value = (g.value, h.value); spells = (o, q, refl, g.spells, h.spells); same = both_true _ _ g.same h.same }
-
-  pub then_writes : {a b c : List ℕ} → Writes R s v a b → Writes S t w b c → Writes (R ⨟ S) (λ (x y : V × W). s x.0 y.0 && t x.1 y.1) (v, w) a c
-  then_writes {a} {b} {c} p q = record {
-    octets = p.octets ++ q.octets;
-    appended = q.appended ∙ (ap (λ z. z ++ q.octets) p.appended ∙ append_assoc a p.octets q.octets);
-    written = then_written p.written q.written;
-  }
-
-module _ {V W : Type 0} (R : Spelling V) (S : Spelling W) (s : V → V → Bool) (t : W → W → Bool) (v : V) (w : W) where
-  then_each : (n m : ℕ) → HasLength R s v n → HasLength S t w m → (b : List ℕ)
-      → IsWritten (R ⨟ S) (λ (x y : V × W). s x.0 y.0 && t x.1 y.1) (v, w) b
-      → min (n + m) 0xFFFF_FFFF_FFFF_FFFF ≡ min (length b) 0xFFFF_FFFF_FFFF_FFFF
-  then_each n m k j b h =
-      let r = h.spells in
-      let e : n ≡ min (length r.0) 0xFFFF_FFFF_FFFF_FFFF =
-      k.each r.0 (record { value = h.value.0; spells = r.3; same = first_so (s v h.value.0) (t w h.value.1) h.same }) in
-      let f : m ≡ min (length r.1) 0xFFFF_FFFF_FFFF_FFFF =
-      j.each r.1 (record { value = h.value.1; spells = r.4; same = second_so (s v h.value.0) (t w h.value.1) h.same }) in
-      let l : length b ≡ length r.0 + length r.1 = ap length r.2 ∙ length-append r.0 r.1 in
-      omega arith
-
-  pub then_length : (n m : ℕ) → HasLength R s v n → HasLength S t w m
-      → HasLength (R ⨟ S) (λ (x y : V × W). s x.0 y.0 && t x.1 y.1) (v, w) (min (n + m) 0xFFFF_FFFF_FFFF_FFFF)
-  then_length n m k j = record {
-    each = then_each n m k j;
-    one = λ small. let o = k.one (omega arith) in let q = j.one (omega arith) in (o.0 ++ q.0, then_written o.1 q.1);
-  }
-
-module _ {V : Type 0} {R : Spelling V} {s : V → V → Bool} {v : V} where
-  pub some_writes : {a b : List ℕ} → Writes R s v a b → Writes (optional R) (option_eq s) (Some v) a b
-  some_writes h =
-      record {
-        octets = h.octets;
-        appended = h.appended;
-        written = record
-            { value = Some h.written.value; spells = h.written.spells; same = h.written.same };
-      }
-
-module _ {V : Type 0} (R : Spelling V) (s : V → V → Bool) where
-  pub none_writes : (a b : List ℕ) → b ≡ a → Writes (optional R) (option_eq s) None a b
-  none_writes a b e = record { octets = []; appended = e ∙ sym (append-nil a); written = record { value = None; spells = refl; same = refl } }
-
-  pub some_length : (v : V) (n : ℕ) → HasLength R s v n → HasLength (optional R) (option_eq s) (Some v) n
-  some_length v n k = record {
-    each = λ b w. go b w.value w.spells w.same;
-    one = λ small. let o = k.one small in (o.0, record { value = Some o.1.value; spells = o.1.spells; same = o.1.same });
-  }
-    where
-      go : (b : List ℕ) (o : Option V) → optional R b o → option_eq s (Some v) o ≡ true → n ≡ min (length b) 0xFFFF_FFFF_FFFF_FFFF
-      go b None r e = absurd (cc)
-      go b (Some u) r e = k.each b (record { value = u; spells = r; same = e })
-
-  pub none_length : HasLength (optional R) (option_eq s) None 0
-  none_length = record {
-    each = λ b w. go b w.value w.spells w.same;
-    one = λ small. ([], record { value = None; spells = refl; same = refl });
-  }
-    where
-      go : (b : List ℕ) (o : Option V) → optional R b o → option_eq s None o ≡ true → 0 ≡ min (length b) 0xFFFF_FFFF_FFFF_FFFF
-      go b None r e = let h : length b ≡ 0 = ap length r in omega arith
-      go b (Some u) r e = absurd (cc)
 
 -- what is written for two values
 module _ {V : Type 0} {R : Spelling V} {s : V → V → Bool} {v w : V} {o q : List ℕ} where

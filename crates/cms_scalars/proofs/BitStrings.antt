@@ -16,7 +16,7 @@ use Rattle.cms_tlv.proofs.Inverse.{eqb_yes, ltb_yes}
 use Rattle.cms_tlv.proofs.Elements.{scalar_reads}
 use Rattle.cms_tlv.proofs.SpellingLaws.{primitive_field}
 use Rattle.cms_fields.specs.Canonical.{IsCanonical, IsByDer, IsDerFramed}
-use Rattle.cms_fields.specs.Writing.{IsWritten, Writes, HasLength, IsLengthOf}
+use Rattle.cms_fields.specs.Writing.{IsWritten}
 use Rattle.cms_fields.proofs.FirstOctetLaws.{is_primitive}
 use Rattle.cms_fields.proofs.CanonicalLaws.{canonical_by, to_equal, element_framed}
 use Rattle.cms_fields.proofs.DerLaws.{element_by_der}

@@ -1,34 +1,24 @@
 -- Frames one after another that were sorted at once, or by halves.
-use Rattle.std.proofs.Common.{◌≡◌, ℕ, suc, ◌+◌, ◌-◌, List, [], ◌∷◌, ◌++◌, length, map, take, drop, refl, sym, ◌∙◌, ap, subst, arith, true, false, Bool, IsPermutation}
+use Rattle.std.proofs.Common.{◌≡◌, ℕ, suc, ◌+◌, ◌-◌, List, [], ◌∷◌, ◌++◌, length, map, take, drop, refl, sym, ◌∙◌, ap, subst, arith, true, false, IsPermutation}
 use borrow.Rule.Slice.PartMut.{put_mid}
-use Rattle.std.specs.List.{AllByRecursion, AllZip}
-use Rattle.std.specs.Cmp.{IsEquivalence}
+use Rattle.std.specs.List.{AllByRecursion}
 use Rattle.std.specs.List.Sorted.{IsSortedBy}
 use Rattle.std.specs.Cmp.Lexicographic.{slice_cmp, nat_list_cmp_total}
 use Rattle.std.specs.Ordering.{nat_cmp, is_lt, ordering_reverse}
 use Rattle.std.proofs.lemmas.List.{length-drop, append-nil, take-append-drop, drop_all}
 use Rattle.std.proofs.lemmas.List.Concat.{length-flat_map}
 use Rattle.std.proofs.lemmas.List.Elements.{All-from_recursion, recursion_from_All}
-use Rattle.std.proofs.lemmas.List.Sorted.{IsPermutation-refl, IsPermutation-map, IsPermutation-append, IsPermutation-trans, sum_by-IsPermutation, All-permutation}
+use Rattle.std.proofs.lemmas.List.Sorted.{IsPermutation-map, IsPermutation-append, IsPermutation-trans, sum_by-IsPermutation, All-permutation}
 use Rattle.std.proofs.lemmas.Grind.{flat_map-append}
 use Rattle.std.proofs.Math.Seq.{drop-append_seam}
 use Rattle.cms_tlv.specs.declared.span.Span.{Span}
 use Rattle.cms_tlv.specs.Frames.{Frame, IsDerFrame}
 use Rattle.cms_tlv.specs.Order.{ComesAfter, Ascends}
-use Rattle.cms_tlv.specs.Spelling.{Spelling, der, join, members}
-use Rattle.cms_tlv.proofs.SpellingLaws.{IsField}
-use Rattle.cms_fields.specs.Canonical.{IsCanonical}
-use Rattle.cms_fields.specs.Writing.{IsWritten}
-use Rattle.cms_setof.specs.Same.{same_members}
-use Rattle.cms_setof.proofs.SetLaws.{ascending_writes, zip_same, map_id}
+use Rattle.cms_tlv.specs.Spelling.{join}
 use Rattle.cms_setof.specs.internal.Merging.{IsRow, AreSorted}
 use Rattle.cms_setof.specs.internal.Sorting.{span_octets, JoinsSorted}
 use Rattle.cms_setof.proofs.FirstFrameLaws.{from_on}
 use Rattle.cms_setof.proofs.MergeLaws.{der_frame, never_after, begins_with}
-
--- frames that ascend are sorted
-pub sorted_already : (bs : List (List ℕ)) (octets : List ℕ) → octets ≡ join bs → Ascends bs → AreSorted bs octets
-sorted_already bs octets e a = record { frames = bs; joined = e; permutation = IsPermutation-refl bs; ascends = a }
 
 pub der_still : (bs cs : List (List ℕ)) → IsPermutation bs cs → AllByRecursion IsDerFrame bs → AllByRecursion IsDerFrame cs
 der_still bs cs m p = recursion_from_All IsDerFrame cs (All-permutation IsDerFrame bs cs m (All-from_recursion IsDerFrame bs p))
@@ -122,13 +112,3 @@ module _ (row left right new : List ℕ) (half seam : ℕ) where
             (subst (λ z. IsPermutation z (a.frames ++ d.frames)) both (IsPermutation-append fs a.frames gs d.frames a.permutation d.permutation)) r.permutation;
         ascends = r.ascends;
       }
-
-module _ {P : ℕ → Type 0} {V : Type 0} {R : Spelling V} {s : V → V → Bool} (f : IsField P R) (k : IsCanonical s R) (q : IsEquivalence s) where
-  -- the encodings of members, sorted, are what is written for the set
-  pub sorted_written : (vs ws : List V) (bs : List (List ℕ)) (o : List ℕ) → AllZip R bs ws → AllZip (λ v w. s v w ≡ true) vs ws → AreSorted bs o
-      → IsWritten (members der R) (same_members s) vs o
-  sorted_written vs ws bs o a e m =
-      let w =
-      ascending_writes f k q (λ (b : List ℕ). b) vs ws bs m.frames [] o (subst (λ z. AllZip R z ws) (sym (map_id bs)) a) (zip_same q vs ws e)
-      m.permutation (subst Ascends (sym (map_id m.frames)) m.ascends) (m.joined ∙ ap join (sym (map_id m.frames))) in
-      subst (IsWritten (members der R) (same_members s) vs) (sym w.appended) w.written

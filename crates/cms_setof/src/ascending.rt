@@ -10,7 +10,7 @@ ghost use Rattle.cms_tlv.specs.Spelling.{join};
 ghost use Rattle.cms_setof.specs.internal.Merging.{AreSorted};
 
 use crate::frames::{first_frame, frame_count, frame_spans, frames_len};
-use crate::merging::merge_at;
+use crate::merging::merge;
 use crate::order::elements_ascend;
 use crate::sorting::append_sorted;
 use std::alloc::{AllocError, Global};
@@ -77,7 +77,7 @@ fn sort_halves(
     let seam = frames_len(row, half);
     sort_halves(&mut row[..seam], half, alloc, copy)?;
     sort_halves(&mut row[seam..], count - half, alloc, copy)?;
-    merge_at(row, seam, copy)
+    merge(row, seam, copy)
 }
 
 /// Sorts frames as `sort_frames` does, by way of a copy of all of them; there is room for the spans of

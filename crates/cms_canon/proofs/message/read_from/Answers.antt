@@ -67,14 +67,14 @@ returns-clause-begins g c n = elim c.match-read.branch [
   | in-Err w ↦ rw w.message-is (refused_begun _ _ _ w.in-Err.fault n (w.in-Err.ensures.refines c.requires.sound))
 ]
 
-pub measured-requires : goal.measured-requires
-measured-requires g c =
+pub measured-is_der-requires : goal.measured-is_der-requires
+measured-is_der-requires g c =
     rw c.deref.ensures.value (spells_whole c.finish-reader.result.1.items c.requires.begun c.in-Ok.ensures.found c.in-Ok.ensures.clear
     c.finish-reader.ensures.kept)
 
 pub invariant_of-message : goal.invariant_of-message
 invariant_of-message g c = record {
   spells = spells_whole c.finish-reader.result.1.items c.requires.begun c.in-Ok.ensures.found c.in-Ok.ensures.clear c.finish-reader.ensures.kept;
-  length = rw (← c.deref.ensures.value) c.measured.ensures.length;
-  is_der = rw (← c.deref.ensures.value) c.measured.ensures.der;
+  length = rw (← c.deref.ensures.value) c.measured-is_der.ensures.length;
+  is_der = rw (← c.deref.ensures.value) c.measured-is_der.ensures.der;
 }

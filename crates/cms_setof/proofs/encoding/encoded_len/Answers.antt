@@ -1,5 +1,4 @@
-use Rattle.std.proofs.Common.{◌≡◌, length, arith}
-use Rattle.std.specs.Prelude.{min}
+use Rattle.std.proofs.Common.{arith}
 use Rattle.cms_setof.proofs.encoding.encoded_len.Goals as goal
 
 pub returns-in-Ok : goal.returns-in-Ok

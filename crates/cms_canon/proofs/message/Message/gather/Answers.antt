@@ -1,15 +1,12 @@
-use Rattle.std.proofs.Common.{refl, ap, arith}
+use Rattle.std.proofs.Common.{refl, ap}
 use Rattle.cms_tlv.specs.Spelling.{ber}
 use Rattle.cms_canon.specs.Whole.{Whole}
 use Rattle.cms_canon.proofs.Messages.{gathered_as}
 use Rattle.cms_canon.proofs.message.Message.gather.Goals as goal
 
 pub gather-requires : goal.gather-requires
-gather-requires c = (
-  omega arith,
-  c.spelled_values_are_values.ensures ber c.self.inside.kept.items refl
-      (rw c.deref-kept.ensures.value c.self.invariant.spells),
-)
+gather-requires c =
+    c.spelled_values_are_values.ensures ber c.self.inside.kept.items refl (rw c.deref-kept.ensures.value c.self.invariant.spells)
 
 pub returns : goal.returns
 returns c =

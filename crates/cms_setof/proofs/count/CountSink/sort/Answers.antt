@@ -1,4 +1,4 @@
-use Rattle.std.proofs.Common.{◌≡◌, ◌+◌, length, ap, sym, ◌∙◌}
+use Rattle.std.proofs.Common.{◌+◌, ap, sym, ◌∙◌}
 use Rattle.cms_setof.proofs.RowLaws.{can_ascend}
 use Rattle.cms_setof.proofs.count.CountSink.sort.Goals as goal
 

@@ -1,6 +1,5 @@
-use Rattle.std.proofs.Common.{◌≡◌, ◌-◌, ◌+◌, ◌++◌, length, ap, sym, ◌∙◌, arith}
+use Rattle.std.proofs.Common.{◌≡◌, ◌++◌, length, ap, ◌∙◌, arith}
 use Rattle.cms_tlv.specs.Spelling.{join}
-use Rattle.cms_fields.specs.Sinks.{Sorts}
 use Rattle.cms_setof.specs.Gathering.{octets_of_parts}
 use Rattle.cms_setof.proofs.SortedRows.{same_length}
 use Rattle.cms_setof.proofs.gathering.GatheringSink.sort.Goals as goal
