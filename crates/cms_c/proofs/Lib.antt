@@ -1,3 +1,4 @@
 mod Prefixes
+mod Rooms
 mod Conversions
 mod Extents

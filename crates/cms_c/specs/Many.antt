@@ -5,9 +5,13 @@ use Rattle.cms_tlv.specs.declared.fault.Fault.{Fault}
 use Rattle.cms_tlv.specs.declared.fault.Fault.TheVariants as faults
 use Rattle.cms_canon.specs.Many.{Conversion, IsBegun, IsFaithful, messages_of, ders_of}
 use Rattle.cms_canon.specs.declared.message.Tail.TheVariants.{Leave}
+use Rattle.cms_canon.specs.Messages.{IsDerOf}
+use Rattle.cms_canon.specs.Received.{KeepsReceived}
+use Rattle.cms_canon.specs.Whole.{Whole}
 use Rattle.cms_c.specs.Calls.{IsFirstRefusal}
 use Rattle.cms_c.specs.Outcomes.{SaysFault, IsReported}
 use Rattle.cms_c.specs.declared.many.Many.{Many}
+use Rattle.cms_c.specs.declared.outcome.Outcome.{Outcome}
 
 --- `EndsBy rest limit refusal`: nothing is left, and the limit is not 0; or what is left is refused
 ---   as a message that more may follow (`IsFirstRefusal`, `IsBegun`)
@@ -31,6 +35,19 @@ pub record ArePrefix (input : List ℕ) (limit messages read : ℕ) (octets : Li
   pub count : messages ≡ length conversions
   pub length_is : read ≡ length (messages_of conversions)
   pub written : octets ≡ ders_of conversions
+
+-- What is written for such messages is reported.
+abbrev pub AreReported : List ℕ → ℕ → List ℕ → List ℕ → Many → Type 0
+AreReported input limit before after m =
+    (octets : List ℕ) × (refusal : Option Fault)
+    × ArePrefix input limit m.messages m.read octets refusal
+    × IsReported refusal octets before after m.outcome
+
+-- DER of a message that was read, and after it other octets are reported.
+abbrev pub AreReportedAfter : Whole → Option Fault → List ℕ → List ℕ → List ℕ → Outcome → Type 0
+AreReportedAfter m refusal others before after o =
+    (octets : List ℕ) × IsDerOf m.value octets × KeepsReceived m.octets octets
+    × IsReported refusal (octets ++ others) before after o
 
 --- `AreConversions input limit before after m`: what is written for such messages is reported
 ---   (`IsReported`), and `m` counts them; or memory ran out,

@@ -41,6 +41,11 @@ SaysFaultOf message (faults.Refused reason at) o =
     Says o 3 (reason_number reason) at message (reason_name reason)
 SaysFaultOf message e o = Says o 5 0 0 0 []
 
+-- so many octets are written, and if there is a refusal of what comes after them, this is said
+abbrev pub SaysReport : Option Fault → ℕ → Outcome → Type 0
+SaysReport None n o = Says o 0 0 0 n []
+SaysReport (Some e) n o = SaysFaultOf n e o
+
 --- `IsReported refusal octets before after o`: the octets are delivered; or if there is a refusal
 ---   of what comes after them, they are written, and the outcome
 --- | says the refusal and how many they are

@@ -2,8 +2,8 @@
 //!
 //! That the room is too small is a status of its own, so that status 0 always means that the octets are
 //! there. The name of a reason is in the outcome, so that no caller needs a table of names.
-ghost use Rattle.std.specs.Prelude.{◌≤◌, length, [], if◌then◌else◌};
-ghost use Rattle.cms_c.specs.Outcomes.{IsDelivered, IsName, IsReported, Says, SaysFault, SaysFaultOf, SaysLack, SaysSameFault};
+ghost use Rattle.std.specs.Prelude.{◌≡◌, ◌≤◌, length, [], true, false, if◌then◌else◌};
+ghost use Rattle.cms_c.specs.Outcomes.{IsDelivered, IsName, IsReported, Says, SaysFault, SaysFaultOf, SaysLack, SaysReport, SaysSameFault};
 
 use cms_canon::SameFault;
 use cms_tlv::Fault;
@@ -100,12 +100,18 @@ impl Outcome {
     pub(crate) fn reported(octets: &[u8], refusal: Option<Fault>, output: &mut [u8]) -> Outcome
         ensures { IsReported refusal octets.now output.old output.new result }
     {
-        let delivered = Outcome::delivered(octets, output);
+        let fits = Outcome::delivered(octets, output).status == DONE;
+        Outcome::counting_up_to(octets.len() as u64, fits, refusal)
+    }
+
+    /// So many octets were written, or did not fit; if they were, why what comes after them is refused.
+    pub(crate) fn counting_up_to(octets: u64, fits: bool, refusal: Option<Fault>) -> Outcome
+        ensures fits { fits ≡ true → SaysReport refusal octets result }
+        ensures lacks_room { fits ≡ false → Says result 6 0 0 octets [] }
+    {
         match refusal {
-            Some(fault) if delivered.status == DONE => {
-                Outcome::of_fault_in(octets.len() as u64, fault)
-            }
-            _ => delivered,
+            Some(fault) if fits => Outcome::of_fault_in(octets, fault),
+            _ => Outcome::counting(octets, fits),
         }
     }
 
