@@ -111,68 +111,76 @@ def convert_many(chunks: Iterable[Octets], limit: int = LIMIT) -> Iterator[bytes
 def _each_converted(chunks: Iterable[Octets], limit: int) -> Iterator[bytes]:
     kept, extent, done, begins = bytearray(), _calls.Extent(), 0, 0
     for chunk in chunks:
-        octets = _calls.octets_of(chunk)
+        octets: Union[bytes, bytearray] = _calls.octets_of(chunk)
         # The library reads a message from its beginning in each call. A message that began in a chunk before is asked for once all of it
         # has come, and not at each chunk, which would take time in proportion to the square of its length.
         if kept:
             kept += octets
             if _is_missing_octets(kept, limit, extent):
                 continue
-            octets = bytes(kept)
+            octets = kept
         outcome, messages, read, ders = _converted(octets, limit)
-        if messages == 1:
-            yield ders
-        else:
-            yield from _elements(ders)
+        yield from _elements(ders, messages)
         done, begins = done + messages, begins + read
         if outcome.status == _calls.REFUSED and outcome.reason != _TRUNCATED:
             raise _calls.error_of(outcome, number=done, begins=begins)
-        kept.clear()
         if read < len(octets):
             kept, extent = bytearray(memoryview(octets)[read:]), _calls.Extent()
-    outcome, messages, read, ders = _converted(bytes(kept), limit)
-    yield from _elements(ders)
+        else:
+            kept.clear()
+    outcome, messages, read, ders = _converted(kept or b"", limit)
+    yield from _elements(ders, messages)
     if outcome.status == _calls.REFUSED:
         raise _calls.error_of(outcome, number=done + messages, begins=begins + read)
 
 
 def _is_missing_octets(octets: bytearray, limit: int, extent: _calls.Extent) -> bool:
     """Whether the element that the octets begin with is not whole. The extent is that of the call before, with fewer of these octets."""
-    address = ctypes.addressof(ctypes.c_char.from_buffer(octets))
-    _calls.library.cms_canon_extent(ctypes.c_char_p(address), len(octets), limit, extent)
+    _calls.library.cms_canon_extent(ctypes.c_char_p(_address_of(octets)), len(octets), limit, extent)
     if extent.reach == _calls.UNKNOWN:
         raise MemoryError("out of memory")
     return bool(extent.reach == _calls.MORE)
 
 
-def _elements(ders: bytes) -> Iterator[bytes]:
+def _address_of(octets: Union[bytearray, memoryview], at: int = 0) -> int:
+    """Where the octets lie from `at` on, until their number changes."""
+    return ctypes.addressof(ctypes.c_char.from_buffer(octets, at))
+
+
+def _elements(ders: memoryview, count: int) -> Iterator[bytes]:
     """The elements in DER, one after another."""
-    at, address = 0, ctypes.cast(ctypes.c_char_p(ders), ctypes.c_void_p).value or 0
+    if count == 1:
+        yield bytes(ders)
+        return
+    at = 0
     while at < len(ders):
         extent = _calls.Extent()
-        _calls.library.cms_canon_extent(ctypes.c_char_p(address + at), len(ders) - at, len(ders), extent)
+        _calls.library.cms_canon_extent(ctypes.c_char_p(_address_of(ders, at)), len(ders) - at, len(ders), extent)
         if extent.reach == _calls.UNKNOWN:
             raise MemoryError("out of memory")
         assert extent.reach == _calls.WHOLE
-        yield ders[at : at + extent.end]
+        yield bytes(ders[at : at + extent.end])
         at += extent.end
 
 
-def _converted(octets: bytes, limit: int) -> Tuple[_calls.Outcome, int, int, bytes]:
-    """What becomes of the messages at the beginning of these octets: how many there are, the octets that they have, and their DER."""
+def _converted(octets: Union[bytes, bytearray], limit: int) -> Tuple[_calls.Outcome, int, int, memoryview]:
+    """What becomes of the messages at the beginning of these octets: how many there are, the octets that they have, and their DER.
+
+    A `bytearray` is not copied: no other thread may have it.
+    """
     many, room = _calls.Many(), len(octets) + 64
     outcome = many.outcome
+    handed = ctypes.c_char_p(_address_of(octets)) if isinstance(octets, bytearray) else octets
     while True:
         output = bytearray(room)
-        address = ctypes.addressof(ctypes.c_char.from_buffer(output))
-        _calls.library.cms_canon_convert_many(octets, len(octets), limit, address, room, many)
+        _calls.library.cms_canon_convert_many(handed, len(octets), limit, _address_of(output), room, many)
         status = outcome.status
         if status != _calls.ROOM_TOO_SMALL:
             break
         room = outcome.octets
     if status not in (_calls.DONE, _calls.REFUSED):
         raise _calls.error_of(outcome)
-    return outcome, many.messages, many.read, bytes(memoryview(output)[: outcome.octets])
+    return outcome, many.messages, many.read, memoryview(output)[: outcome.octets]
 
 
 def show(data: Octets, limit: int = LIMIT) -> str:

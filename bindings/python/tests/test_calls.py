@@ -210,9 +210,9 @@ class Many(unittest.TestCase):
     def test_a_message_in_pieces_is_asked_for_at_its_first_and_its_last_one(self):
         lengths = []
 
-        def converted(octets, *words):
-            lengths.append(len(octets))
-            call(octets, *words)
+        def converted(octets, length, *words):
+            lengths.append(length)
+            call(octets, length, *words)
 
         call = library.cms_canon_convert_many
         with mock.patch.object(library, "cms_canon_convert_many", converted):
