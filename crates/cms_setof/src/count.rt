@@ -1,6 +1,7 @@
 //! A sink that counts.
 ghost use Rattle.std.specs.Prelude.{◌≡◌, ◌≤◌, ◌+◌, length};
 
+use crate::encoding::LongString;
 use cms_fields::{Sink, Stop, spans_len};
 use cms_tlv::{BorrowedSpans, Span};
 
@@ -10,12 +11,44 @@ const LONG: u64 = 0x1_0000;
 /// A string is borrowed only if its spans have at least this many octets each, on average.
 const LONG_SPAN: u64 = 64;
 
-/// Counts octets. It stops if there are 2^64 or more, and may at one fewer.
+/// Counts octets. It stops at 2^64 octets or more, and may stop at one fewer.
 #[derive(Drop)]
 pub(crate) struct Count {
     pub(crate) octets: u64,
-    /// How many octets the last long string has; 0 if there is none.
-    pub(crate) long_string: u64,
+    /// The longest string that is not in a set.
+    pub(crate) long_string: Option<LongString>,
+}
+
+impl Count {
+    /// Notes a string of so many octets in so many spans, which comes before those that were counted.
+    fn note(&mut self, octets: u64, spans: u64)
+        ensures { self.new.octets ≡ self.old.octets }
+    {
+        let longest = match self.long_string {
+            Some(string) => string.octets,
+            None => 0,
+        };
+        if octets >= LONG && octets / LONG_SPAN >= spans && octets > longest {
+            self.long_string = Some(LongString {
+                octets,
+                after: self.octets,
+            });
+        }
+    }
+
+    /// Forgets the long string if it is among the octets after the first `from`, which are a set: these
+    /// are sorted in place once they are gathered, so that nothing of them is borrowed.
+    fn forget_after(&mut self, from: u64)
+        ensures { self.new.octets ≡ self.old.octets }
+    {
+        let is_in_set = match self.long_string {
+            Some(string) => string.after >= from,
+            None => false,
+        };
+        if is_in_set {
+            self.long_string = None;
+        }
+    }
 }
 
 impl Sink for Count {
@@ -44,14 +77,13 @@ impl Sink for Count {
         if octets == u64::MAX {
             return Err(Stop);
         }
+        self.note(octets, spans.len());
         self.octets = sum;
-        if self.long_string == 0 && octets >= LONG && octets / LONG_SPAN >= spans.len() {
-            self.long_string = octets;
-        }
         Ok(true)
     }
 
-    fn sort(&mut self, _: &[u8], _: u64) -> Result<(), Stop> {
+    fn sort(&mut self, _: &[u8], from: u64) -> Result<(), Stop> {
+        self.forget_after(from);
         Ok(())
     }
 

@@ -1,5 +1,5 @@
-//! What is made of a value by one walk.
-ghost use Rattle.std.specs.Prelude.{◌≡◌, length, true, OnOk, OnErr, IfOk};
+//! What is computed by walking a value.
+ghost use Rattle.std.specs.Prelude.{◌≡◌, ◌++◌, length, true, OnOk, OnErr, IfOk};
 ghost use Rattle.cms_tlv.specs.Spelling.{element, der};
 ghost use Rattle.cms_fields.specs.Writing.{IsWritten, Writes, HasLength};
 ghost use Rattle.cms_setof.specs.Gathering.{octets_of_parts};
@@ -11,13 +11,25 @@ use crate::gathering::Gathering;
 use cms_fields::{Sink, Write, emit_element};
 use std::alloc::{AllocError, Global};
 
+/// How many octets a header has at most, if its identifier is one octet.
+const MOST_OF_A_HEADER: u64 = 10;
+
 /// How long an encoding is.
 #[derive(Clone, Copy)]
 pub struct EncodedLen {
     /// How many octets it has, or `u64::MAX` if there are more.
     pub octets: u64,
-    /// How many octets the string in it has that may be borrowed; 0 if there is none.
-    pub long_string: u64,
+    /// The string in it that may be borrowed.
+    pub long_string: Option<LongString>,
+}
+
+/// A long string in an encoding.
+#[derive(Clone, Copy)]
+pub struct LongString {
+    /// How many octets it has.
+    pub octets: u64,
+    /// How many octets of the encoding come after it.
+    pub after: u64,
 }
 
 /// How long the encoding of a value is.
@@ -28,7 +40,7 @@ pub fn encoded_len<T: Write>(value: &T, kept: &[u8]) -> EncodedLen
 {
     let mut count = Count {
         octets: 0,
-        long_string: 0,
+        long_string: None,
     };
     match value.emit(kept, &mut count) {
         Ok(()) => EncodedLen {
@@ -37,7 +49,7 @@ pub fn encoded_len<T: Write>(value: &T, kept: &[u8]) -> EncodedLen
         },
         Err(_) => EncodedLen {
             octets: u64::MAX,
-            long_string: 0,
+            long_string: None,
         },
     }
 }
@@ -57,8 +69,8 @@ pub fn is_encoding<T: Write>(value: &T, kept: &[u8]) -> bool
     value.emit(kept, &mut comparing).is_ok() && comparing.at == 0
 }
 
-/// The encoding of a value, in which a string of `len.long_string` octets may be borrowed. An error
-/// means out of memory.
+/// The encoding of a value, in which the long string of `len` may be borrowed. An error means out of
+/// memory.
 pub fn gather<T: Write>(
     value: &T,
     len: EncodedLen,
@@ -69,13 +81,7 @@ pub fn gather<T: Write>(
     ensures { IfOk result (λ g. IsWritten (T.grammar.spelled der) T.grammar.same
         (T.value kept.now value.now) (octets_of_parts kept.now g)) }
 {
-    let room = len.octets.saturating_sub(len.long_string);
-    let mut sink = Gathering {
-        gathered: Gathered::with_room(alloc, room as usize)?,
-        count: 0,
-        lend: len.long_string,
-        alloc,
-    };
+    let mut sink = Gathering::new(alloc, len)?;
     match value.emit(kept, &mut sink) {
         Ok(()) => Ok(sink.gathered),
         Err(_) => Err(AllocError),
@@ -94,8 +100,28 @@ pub fn put<T: Write>(
         (T.value kept.now value.now) out.old.items out.new.items) }
     ensures err { OnErr result (out.new.items ≡ out.old.items) }
 {
-    let der = gather(value, encoded_len(value, kept), alloc, kept)?;
-    der.append_to(kept, out)
+    put_with_len(value, encoded_len(value, kept), alloc, kept, out)
+}
+
+/// `put` for a value whose encoding is so long.
+pub fn put_with_len<T: Write>(
+    value: &T,
+    len: EncodedLen,
+    alloc: Global,
+    kept: &[u8],
+    out: &mut Vec<u8>,
+) -> Result<(), AllocError>
+    requires { T.grammar.is_value (T.value kept.now value.now) }
+    ensures ok { OnOk result (Writes (T.grammar.spelled der) T.grammar.same
+        (T.value kept.now value.now) out.old.items out.new.items) }
+    ensures err { OnErr result (out.new.items ≡ out.old.items) }
+{
+    let in_one_piece = EncodedLen {
+        octets: len.octets,
+        long_string: None,
+    };
+    let der = gather(value, in_one_piece, alloc, kept)?;
+    append(der.into_octets(kept, alloc)?, out)
 }
 
 /// Appends an element with the identifier octet `ident` that holds the encoding of `contents`. An error
@@ -112,14 +138,28 @@ pub fn put_element<T: Write>(
         (T.value kept.now contents.now) out.old.items out.new.items) }
     ensures err { OnErr result (out.new.items ≡ out.old.items) }
 {
-    let mut sink = Gathering {
-        gathered: Gathered::with_room(alloc, 0)?,
-        count: 0,
-        lend: 0,
-        alloc,
+    let len = EncodedLen {
+        octets: encoded_len(contents, kept)
+            .octets
+            .saturating_add(MOST_OF_A_HEADER),
+        long_string: None,
     };
+    let mut sink = Gathering::new(alloc, len)?;
     match emit_element(ident, contents, kept, &mut sink) {
-        Ok(()) => sink.gathered.append_to(kept, out),
+        Ok(()) => append(sink.gathered.into_octets(kept, alloc)?, out),
         Err(_) => Err(AllocError),
     }
+}
+
+/// Appends `octets`. An error means out of memory; `out` is then as it was.
+fn append(octets: Vec<u8>, out: &mut Vec<u8>) -> Result<(), AllocError>
+    ensures ok { OnOk result (out.new.items ≡ out.old.items ++ octets.items) }
+    ensures err { OnErr result (out.new.items ≡ out.old.items) }
+{
+    // The octets of a long message are not copied again.
+    if out.is_empty() {
+        *out = octets;
+        return Ok(());
+    }
+    out.extend_from_slice(&octets)
 }

@@ -9,7 +9,7 @@ use crate::ascending::sort_frames;
 use std::alloc::{AllocError, Global};
 use std::marker::Model;
 
-/// Octets, of which more are put before those that are there.
+/// Octets that grow at their front.
 pub(crate) struct Front {
     /// The first `at` are room.
     octets: Vec<u8>,
@@ -78,6 +78,22 @@ impl Front {
         &self.octets[self.at..]
     }
 
+    /// The octets, as a vector. They are copied only if there is room left before them. An error means
+    /// out of memory.
+    pub(crate) fn into_octets(self) -> Result<Vec<u8>, AllocError>
+        ensures { IfOk result (λ v. v.items ≡ self) }
+    {
+        if self.at > 0 {
+            return Vec::from_slice(self.alloc, &self.octets[self.at..]);
+        }
+        let Front {
+            octets,
+            at: _,
+            alloc: _,
+        } = self;
+        Ok(octets)
+    }
+
     /// Puts octets before those that are there. An error means out of memory.
     pub(crate) fn put(&mut self, more: &[u8]) -> Result<(), AllocError>
         ensures { OnOk result (self.new ≡ more.now ++ self.old) }
@@ -93,8 +109,7 @@ impl Front {
         Ok(())
     }
 
-    /// Puts the frames that the first `n` octets are in ascending order (X.690, 11.6). An error means out
-    /// of memory.
+    /// Sorts the frames that make up the first `n` octets (X.690, 11.6). An error means out of memory.
     pub(crate) fn sort_first(&mut self, n: usize) -> Result<(), AllocError>
         requires { n ≤ length self.old }
         ensures { OnOk result ((frames : List (List ℕ)) → AllByRecursion IsDerFrame frames
@@ -106,8 +121,8 @@ impl Front {
     }
 }
 
-/// The octets after room for `n` more and for as many as they are, so that they are seldom moved, and
-/// how many octets of room there are. An error means out of memory.
+/// `octets` after room for `n` more and for as many again, so that they are seldom moved; and how much
+/// room that is. An error means out of memory.
 fn with_more_room(octets: &[u8], n: usize, alloc: Global) -> Result<(Vec<u8>, usize), AllocError>
     ensures { IfOk result (λ p. (n ≤ p.1) × (p.1 ≤ length p.0.items)
         × (drop p.1 p.0.items ≡ octets.now)) }

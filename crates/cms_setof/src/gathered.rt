@@ -2,7 +2,7 @@
 //!
 //! A copy of 8 MiB of content takes as many fresh pages as the octets kept: the whole then takes 1.6
 //! times as long as a program that only copies, and 1.2 times without it. One string is enough, since a
-//! message has one content.
+//! message has one content. `Count` says which: the longest that is not in a set.
 ghost use Rattle.std.specs.Prelude.{◌≡◌, ◌+◌, ◌++◌, ◌<◌, ◌≤◌, ◌^◌, ℕ, List, [], drop, length, min, OnOk, OnErr, IfOk, IfErr};
 ghost use Rattle.std.specs.Io.KnownBytes.{Appends};
 ghost use Rattle.cms_tlv.specs.Pouring.{StopsAfter};
@@ -136,27 +136,40 @@ impl Gathered {
         before.saturating_add(borrowed).saturating_add(after)
     }
 
-    /// Appends everything; what is borrowed is copied from `kept`. An error means out of memory; `out` is
-    /// then as it was.
-    pub fn append_to(&self, kept: &[u8], out: &mut Vec<u8>) -> Result<(), AllocError>
-        ensures ok { OnOk result (out.new.items
-            ≡ out.old.items ++ octets_of_parts kept.now self.now) }
-        ensures err { OnErr result (out.new.items ≡ out.old.items) }
+    /// All octets; what is borrowed is copied from `kept`. An error means out of memory.
+    pub(crate) fn into_octets(self, kept: &[u8], alloc: Global) -> Result<Vec<u8>, AllocError>
+        ensures { IfOk result (λ v. v.items ≡ octets_of_parts kept.now self) }
     {
-        let n = self.len(kept);
-        let start = out.len();
-        if n > (usize::MAX - start) as u64 {
-            return Err(AllocError);
+        if self.borrowed.is_empty() && self.after.octets().is_empty() {
+            let Gathered {
+                before,
+                borrowed: _,
+                after: _,
+            } = self;
+            return before.into_octets();
         }
-        out.resize(start + n as usize, 0)?;
-        self.copy_to(kept, &mut out[start..]);
-        Ok(())
+        self.copied(kept, alloc)
     }
 
-    /// Puts what spans name before all that is there, borrowed. An error means out of memory.
+    /// A copy of all octets; what is borrowed is copied from `kept`. An error means out of memory.
+    fn copied(&self, kept: &[u8], alloc: Global) -> Result<Vec<u8>, AllocError>
+        ensures { IfOk result (λ v. v.items ≡ octets_of_parts kept.now self.now) }
+    {
+        let n = self.len(kept);
+        if n == u64::MAX {
+            return Err(AllocError);
+        }
+        let mut octets = vec![in alloc; 0u8; n as usize]?;
+        self.copy_to(kept, &mut octets);
+        Ok(octets)
+    }
+
+    /// Borrows what the spans name, and puts it before all that was gathered. There will be room for
+    /// `room` octets before it. An error means out of memory.
     pub(crate) fn borrow(
         &mut self,
         spans: BorrowedSpans<'_>,
+        room: usize,
         alloc: Global,
     ) -> Result<(), AllocError>
         requires borrowed { self.old.1.0 ≡ [] }
@@ -166,26 +179,26 @@ impl Gathered {
     {
         let mut borrowed = Vec::with_capacity(alloc, spans.len() as usize)?;
         push_all(spans, &mut borrowed)?;
-        self.after = mem::replace(&mut self.before, Front::new(alloc));
+        let before = Front::with_room(alloc, room)?;
+        self.after = mem::replace(&mut self.before, before);
         self.borrowed = borrowed;
         Ok(())
     }
 
     /// Copies what is borrowed from `kept`, so that everything is in one piece. An error means out of
     /// memory.
-    pub(crate) fn settle(&mut self, kept: &[u8], alloc: Global) -> Result<(), AllocError>
+    fn settle(&mut self, kept: &[u8], alloc: Global) -> Result<(), AllocError>
         ensures { OnOk result (self.new ≡ (octets_of_parts kept.now self.old, ([], []))) }
     {
-        let mut all = Vec::new(alloc);
-        self.append_to(kept, &mut all)?;
+        let all = self.copied(kept, alloc)?;
         self.before = Front::of(alloc, all);
         self.borrowed = Vec::new(alloc);
         self.after = Front::new(alloc);
         Ok(())
     }
 
-    /// Puts the frames that the first `n` octets are in ascending order (X.690, 11.6). If some of them are
-    /// borrowed, they are copied from `kept` first. An error means out of memory, or fewer octets.
+    /// Sorts the frames that make up the first `n` octets (X.690, 11.6). If they reach into what is
+    /// borrowed, that is copied from `kept` first. An error means out of memory, or fewer than `n` octets.
     pub(crate) fn sort_first(
         &mut self,
         n: u64,

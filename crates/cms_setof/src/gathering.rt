@@ -1,34 +1,52 @@
-//! A sink that writes.
+//! A sink that gathers.
 ghost use Rattle.std.specs.Prelude.{◌≡◌, ◌+◌, ◌++◌, length};
 ghost use Rattle.cms_setof.specs.Gathering.{octets_of_parts};
 
+use crate::encoding::{EncodedLen, LongString};
 use crate::gathered::Gathered;
 use cms_fields::{Sink, Stop, spans_len};
 use cms_tlv::{BorrowedSpans, Span};
-use std::alloc::Global;
+use std::alloc::{AllocError, Global};
 
-/// Gathers what it takes. It stops without memory.
+/// Gathers what it takes. It stops if memory runs out.
 #[derive(Drop)]
 pub(crate) struct Gathering {
     pub(crate) gathered: Gathered,
-    pub(crate) count: u64,
-    /// The first string of so many octets is borrowed; none if it is 0.
-    pub(crate) lend: u64,
-    pub(crate) alloc: Global,
+    count: u64,
+    /// How long all of it will be, and which string is to be borrowed.
+    len: EncodedLen,
+    alloc: Global,
 }
 
 impl Gathering {
-    ghost use Rattle.std.specs.Prelude.{◌≡◌, [], true};
+    ghost use Rattle.std.specs.Prelude.{◌≡◌, ℕ, List, [], IfOk, IfSome};
+    ghost use Rattle.cms_setof.specs.Gathering.{octets_of_parts};
 
-    /// Whether the string that spans name is the one to be borrowed.
-    fn borrows(&self, kept: &[u8], spans: BorrowedSpans<'_>) -> bool
-        ensures { result ≡ true
-            → (self.now.gathered.1.0 ≡ []) × (self.now.gathered.1.1 ≡ []) }
+    /// Nothing yet, with room for an encoding of this length. An error means out of memory.
+    pub(crate) fn new(alloc: Global, len: EncodedLen) -> Result<Gathering, AllocError>
+        ensures { (k : List ℕ) → IfOk result (λ g. octets_of_parts k g.gathered ≡ []) }
     {
-        self.lend != 0
+        let room = match len.long_string {
+            Some(string) => string.after,
+            None => len.octets,
+        };
+        Ok(Gathering {
+            gathered: Gathered::with_room(alloc, room as usize)?,
+            count: 0,
+            len,
+            alloc,
+        })
+    }
+
+    /// The string that is to be borrowed, if it is the next one.
+    fn next_to_borrow(&self) -> Option<LongString>
+        ensures { IfSome result (λ s. (self.now.gathered.1.0 ≡ []) × (self.now.gathered.1.1 ≡ [])) }
+    {
+        let string = self.len.long_string?;
+        let is_next = string.after == self.count
             && self.gathered.borrowed.is_empty()
-            && self.gathered.after.octets().is_empty()
-            && spans_len(spans, kept) == self.lend
+            && self.gathered.after.octets().is_empty();
+        if is_next { Some(string) } else { None }
     }
 }
 
@@ -56,15 +74,20 @@ impl Sink for Gathering {
     }
 
     fn spans_at_once(&mut self, kept: &[u8], spans: BorrowedSpans<'_>) -> Result<bool, Stop> {
-        if !self.borrows(kept, spans) {
+        let Some(string) = self.next_to_borrow() else {
             return Ok(false);
-        }
+        };
         let octets = spans_len(spans, kept);
         let count = self.count.checked_add(octets).ok_or(Stop)?;
         if octets == u64::MAX {
             return Err(Stop);
         }
-        self.gathered.borrow(spans, self.alloc)?;
+        let room = self
+            .len
+            .octets
+            .saturating_sub(string.after)
+            .saturating_sub(octets);
+        self.gathered.borrow(spans, room as usize, self.alloc)?;
         self.count = count;
         Ok(true)
     }

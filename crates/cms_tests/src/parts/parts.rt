@@ -6,8 +6,10 @@ use crate::parts::sources::{AT_A_TIME, LIMIT, source};
 use cms_fields::{Last, Tagged, Then, read_after_header, read_der, read_with_span};
 use cms_sample::TextSpan;
 use cms_scalars::{Integer, IntegerSpan, Octets, OctetsSpan};
-use cms_setof::{Gathered, encoded_len, gather, is_encoding, put, put_element};
-use cms_tlv::{Bound, Fault, Input, OCTET_STRING, Reason, SEQUENCE, Source, Span, Watched};
+use cms_setof::{
+    EncodedLen, Gathered, LongString, SetOf, encoded_len, gather, is_encoding, put, put_element,
+};
+use cms_tlv::{Bound, Fault, Input, OCTET_STRING, Reason, SEQUENCE, SET, Source, Span, Watched};
 use std::alloc::Global;
 use std::process::Abort;
 use std::test::Fail;
@@ -214,6 +216,12 @@ fn texts_in_der(alloc: Global) -> Result<Vec<u8>, Fail> {
     Ok(octets)
 }
 
+/// How many octets the string has that is borrowed, and how many come after it.
+fn borrowed(len: &EncodedLen) -> Option<(u64, u64)> {
+    let string = len.long_string?;
+    Some((string.octets, string.after))
+}
+
 /// One string is borrowed, and the others are copied.
 #[test]
 fn long_strings_gathered(rt: HostRuntime) -> Result<(), Fail> {
@@ -222,11 +230,45 @@ fn long_strings_gathered(rt: HostRuntime) -> Result<(), Fail> {
     let (texts, kept) = received::<Texts>(rt.alloc(), &octets, LONG, 1 << 20)?;
     let len = encoded_len(&texts, &kept);
     assert_same(&rt, len.octets, want.len() as u64, "how many octets");
-    assert_same(&rt, len.long_string, LONG as u64, "how many are borrowed");
+    assert_same(
+        &rt,
+        borrowed(&len),
+        Some((LONG as u64, 0)),
+        "the last string",
+    );
     let gathered = gather(&texts, len, rt.alloc(), &kept)?;
     assert_poured(&rt, &gathered, &kept, &want)?;
     let mut out = Vec::new(rt.alloc());
     put(&texts, rt.alloc(), &kept, &mut out)?;
     assert_holds(&rt, out.as_slice() == want.as_slice(), "what is put");
     Ok(())
+}
+
+/// No string in a set is borrowed, since the set is sorted where it was gathered.
+#[test]
+fn long_strings_in_sets_gathered(rt: HostRuntime) -> Result<(), Fail> {
+    let text = vec![in rt.alloc(); 0x61; LONG]?;
+    let mut octets = Vec::from_slice(rt.alloc(), b"\x31\x80\x04\x83\x01\x00\x00")?;
+    octets.extend_from_slice(&text)?;
+    octets.extend_from_slice(b"\x04\x01\x62\x00\x00")?;
+    let mut want = Vec::from_slice(
+        rt.alloc(),
+        b"\x31\x83\x01\x00\x08\x04\x01\x62\x04\x83\x01\x00\x00",
+    )?;
+    want.extend_from_slice(&text)?;
+    let (texts, kept) = received::<Tagged<SET, SetOf<Text>>>(rt.alloc(), &octets, LONG, 1 << 20)?;
+    let len = encoded_len(&texts, &kept);
+    assert_same(&rt, borrowed(&len), None, "no string");
+    let gathered = gather(&texts, len, rt.alloc(), &kept)?;
+    assert_poured(&rt, &gathered, &kept, &want)?;
+    let string = LongString {
+        octets: LONG as u64,
+        after: 0,
+    };
+    let len = EncodedLen {
+        octets: len.octets,
+        long_string: Some(string),
+    };
+    let gathered = gather(&texts, len, rt.alloc(), &kept)?;
+    assert_poured(&rt, &gathered, &kept, &want)
 }

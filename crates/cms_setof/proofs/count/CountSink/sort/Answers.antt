@@ -8,5 +8,5 @@ returns-clause-ok c = λ s bs e f a.
       sorted = o.0;
       permutation = o.1;
       ascends = o.2;
-      put = a ∙ ap (λ n. s.octets + n) (sym o.3);
+      put = c.forget_after.ensures ∙ (a ∙ ap (λ n. s.octets + n) (sym o.3));
     }
