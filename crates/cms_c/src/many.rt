@@ -2,9 +2,9 @@
 //!
 //! What was converted is handed over with the refusal, so that a caller whose octets come in pieces
 //! goes on where the last whole message ends. Whether all of the DER fits is known after the last
-//! message, so that none of it is written before. The first message is kept until then, and written
-//! from what was kept: it is the only one that may be long, if a caller asks once a long message is
-//! whole. The DER of the others is collected.
+//! message, so that none of it is written before. The DER of all messages but the first is collected. The
+//! first is kept as it was read, and its DER written from there: a caller that waits until all of a long
+//! message has come hands it over first, and it is copied no more often than by `cms_canon_convert`.
 ghost use Rattle.std.specs.Prelude.{◌≡◌, ◌<◌, ◌≤◌, ◌+◌, ◌^◌, ◌++◌, true, false, take, drop, length, IfOk, OnErr};
 ghost use Rattle.cms_canon.specs.Messages.{IsWritable};
 ghost use Rattle.cms_tlv.specs.Slices.{rest_of};
