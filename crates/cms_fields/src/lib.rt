@@ -13,7 +13,7 @@
 //! let attribute: AttributeSpans = attribute.ok()?;
 //! ```
 //!
-//! `cms_setof` has what is made of it: its length, and its DER.
+//! `cms_setof` computes its length and its DER, and whether octets are its DER.
 //!
 //! One element is a `Field`, and what lies between a header and its end is `Fields`. The laws of both
 //! are the contract of `Write::law`:

@@ -1,8 +1,8 @@
 //! What takes the octets of a value, from the last to the first.
 //!
-//! A header is taken after its contents, so its length is what was taken since: no length is passed
-//! down, counted again or kept. From the first octet to the last, a sink that counts would have no
-//! length to give to a header, and each level would count what is in it again.
+//! A header is taken after its contents, so their length is known by then: no length is passed down,
+//! counted again or kept. In the other direction a sink that counts could not give a header its length,
+//! and each level would count its contents again.
 ghost use Rattle.std.specs.Prelude.{◌≡◌, ◌+◌, ℕ, List, length, min, OnErr, OnOk};
 ghost use Rattle.cms_tlv.specs.Spans.{borrowed_spans};
 ghost use Rattle.cms_tlv.specs.Spelling.{join};
@@ -23,7 +23,7 @@ impl From<AllocError> for Stop {
     }
 }
 
-/// What takes octets, each before those that it took already. After an error it is in no known state.
+/// Takes octets, each before those already taken. After an error its state is unknown.
 pub trait Sink {
     ghost use Rattle.std.specs.Prelude.{◌≡◌, ◌+◌, ℕ, List, length, true, false, IfOk, OnErr, OnOk};
     ghost use Rattle.std.specs.List.{AllByRecursion};
@@ -51,8 +51,7 @@ pub trait Sink {
             (octets_in kept.now span.start span.end) self.new) }
         ensures stops { OnErr result (taking.stops (taking.count self.old + length (octets_in kept.now span.start span.end))) };
 
-    /// Takes the octets of `kept` that spans name, one after another, if it takes them at once. Returns
-    /// whether it did.
+    /// Takes all octets of `kept` that the spans name in one step, or none. Returns whether it took them.
     fn spans_at_once(&mut self, kept: &[u8], spans: BorrowedSpans<'_>) -> Result<bool, Stop>
         ensures taken { IfOk result (λ taken. taken ≡ true → taking.puts kept.now self.old
             (join (spanned_in kept.now (borrowed_spans spans.entry))) self.new) }
@@ -60,8 +59,7 @@ pub trait Sink {
         ensures stops { OnErr result (taking.stops (taking.count self.old
             + length (join (spanned_in kept.now (borrowed_spans spans.entry))))) };
 
-    /// Puts into ascending order the elements that it took since it had taken `from` octets (X.690,
-    /// 11.6).
+    /// Sorts the elements that it took after its first `from` octets, in ascending order (X.690, 11.6).
     fn sort(&mut self, kept: &[u8], from: u64) -> Result<(), Stop>
         ensures ok { OnOk result ((s : Self) (frames : List (List ℕ)) → taking.count s ≡ from
             → AllByRecursion IsDerFrame frames → taking.puts kept.now s (join frames) self.old

@@ -2,7 +2,7 @@
 //!
 //! The value is the list of bits up to the last 1, which is not what was received, so that this is no
 //! `Primitive`. Any octets show such a list, and so writing asks for nothing.
-ghost use Rattle.std.specs.Prelude.{◌≡◌, ◌==◌, ◌↔◌, ◌+◌, ◌++◌, ◌∷◌, [], ◌<◌, OnOk, OnErr, ℕ, List, min, slice_index, IsTrue, IsNone, IfSome, length, true, false, bytes_eq};
+ghost use Rattle.std.specs.Prelude.{◌≡◌, ◌==◌, ◌↔◌, ◌+◌, ◌++◌, ◌∷◌, [], ◌<◌, OnOk, OnErr, ℕ, List, min, slice_index, IsTrue, IsNone, IfSome, length, false, bytes_eq};
 ghost use Rattle.std.specs.Int.{w8, trailing_zeros};
 ghost use Rattle.cms_tlv.specs.Headers.{AreOctets};
 ghost use Rattle.cms_tlv.specs.Reading.{refuse};

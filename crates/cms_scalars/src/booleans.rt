@@ -2,7 +2,7 @@
 //!
 //! What was read is kept as its truth, and not as a span, since TRUE is written as FF whatever its
 //! octet was.
-ghost use Rattle.std.specs.Prelude.{◌≡◌, ◌==◌, ◌≤◌, ◌++◌, ◌∷◌, [], length, take, Bool, None, true, false, IfOk, IfErr, OnOk, OnErr, bytes_eq};
+ghost use Rattle.std.specs.Prelude.{◌≡◌, ◌==◌, ◌++◌, ◌∷◌, [], length, Bool, None, true, false, IfOk, IfErr, OnOk, OnErr, bytes_eq};
 ghost use Rattle.cms_tlv.specs.State.{Answers, Progresses, FaultIsSticky};
 ghost use Rattle.cms_tlv.specs.Refines.{Refines, plain};
 ghost use Rattle.cms_tlv.specs.Clauses.{Found, Faults, IsWithin};

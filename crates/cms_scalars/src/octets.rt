@@ -4,7 +4,7 @@
 //! memory if all of the string lies below 4 GiB. Segments are read by a function that calls itself, and
 //! each level is a pure reader over the one below: so its laws are those of a choice, of an element and
 //! of members one after another, by induction.
-ghost use Rattle.std.specs.Prelude.{◌≡◌, ◌==◌, ◌<◌, ◌∷◌, [], ℕ, List, length, map, min, slice_get, option_map, None, true, false, IfOk, IfErr, OnOk, bytes_eq};
+ghost use Rattle.std.specs.Prelude.{◌≡◌, ◌==◌, ◌<◌, ◌∷◌, [], ℕ, List, length, map, min, slice_get, option_map, None, true, IfOk, IfErr, OnOk, bytes_eq};
 ghost use Rattle.cms_fields.specs.ReadingCalls.{ReadsField, ReadsSpelled};
 ghost use Rattle.cms_tlv.specs.State.{Answers, Progresses, FaultIsSticky};
 ghost use Rattle.cms_tlv.specs.Refines.{Refines};

@@ -18,7 +18,7 @@ use std::alloc::{AllocError, Global};
 /// How many frames are sorted at once.
 const AT_ONCE: usize = 16384;
 
-/// Room for the spans of most sets, if they are not counted, which takes longer than to make more room.
+/// Room for the spans of most sets. To count them first would take longer than to make more room.
 const ROOM: usize = 16;
 
 /// Whether the frames that lie in `row` one after another ascend.
@@ -39,8 +39,8 @@ pub(crate) fn frames_ascend(row: &[u8]) -> bool
     true
 }
 
-/// Puts frames into ascending order, which lie in `row` one after another. An error means out of memory;
-/// `row` may then have any octets.
+/// Sorts the frames that lie in `row` one after another. An error means out of memory; `row` may then
+/// have any octets.
 pub(crate) fn sort_frames(row: &mut [u8], alloc: Global) -> Result<(), AllocError>
     ensures { OnOk result ((bs : List (List ℕ)) → AllByRecursion IsDerFrame bs → row.old ≡ join bs
         → AreSorted bs row.new) }
@@ -60,7 +60,8 @@ pub(crate) fn sort_frames(row: &mut [u8], alloc: Global) -> Result<(), AllocErro
     sort_halves(row, count, alloc, &mut copy)
 }
 
-/// Sorts `count` frames as `sort_frames` does: those of each half, which are merged by way of `copy`.
+/// Sorts `count` frames as `sort_frames` does: each half by itself, and then both are merged by way of
+/// `copy`.
 fn sort_halves(
     row: &mut [u8],
     count: usize,

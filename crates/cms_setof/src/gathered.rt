@@ -3,7 +3,7 @@
 //! A copy of 8 MiB of content takes as many fresh pages as the octets kept: the whole then takes 1.6
 //! times as long as a program that only copies, and 1.2 times without it. One string is enough, since a
 //! message has one content. `Count` says which: the longest that is not in a set.
-ghost use Rattle.std.specs.Prelude.{◌≡◌, ◌+◌, ◌++◌, ◌<◌, ◌≤◌, ◌^◌, ℕ, List, [], drop, length, min, OnOk, OnErr, IfOk, IfErr};
+ghost use Rattle.std.specs.Prelude.{◌≡◌, ◌+◌, ◌++◌, ◌<◌, ◌≤◌, ◌^◌, ℕ, List, [], drop, length, min, OnOk, IfOk, IfErr};
 ghost use Rattle.std.specs.Io.KnownBytes.{Appends};
 ghost use Rattle.cms_tlv.specs.Pouring.{StopsAfter};
 ghost use Rattle.cms_tlv.specs.Streams.{Counts};

@@ -2,7 +2,7 @@
 //!
 //! What lies around a borrowed string is written through a buffer, so that segments of 1 KiB are not a call
 //! of the writer each. If there is no memory for the buffer, each piece is written alone.
-ghost use Rattle.std.specs.Prelude.{◌≡◌, ◌++◌, ◌+◌, ◌^◌, ◌<◌, ◌≤◌, [], length, take, drop, OnOk, IfErr};
+ghost use Rattle.std.specs.Prelude.{◌≡◌, ◌++◌, ◌+◌, ◌^◌, ◌<◌, ◌≤◌, length, take, drop, OnOk, IfErr};
 ghost use Rattle.std.specs.Io.KnownBytes.{Appends};
 ghost use Rattle.cms_tlv.specs.Pouring.{StopsAfter};
 ghost use Rattle.cms_tlv.specs.Spelling.{join};

@@ -2,7 +2,7 @@
 //!
 //! Certificates by OpenSSL have 5 elements inside one another, and 8 with an RSASSA-PSS key. All of them
 //! are passed in one loop, which takes half the instructions of a call for each.
-ghost use Rattle.std.specs.Prelude.{◌≡◌, ◌<◌, ◌≤◌, ℕ, ◌+◌, ◌*◌, ◌∷◌, ◌++◌, IfSome, length, take, true};
+ghost use Rattle.std.specs.Prelude.{◌≡◌, ◌<◌, ◌≤◌, ◌+◌, ◌*◌, ◌∷◌, ◌++◌, IfSome, length, take, true};
 ghost use Rattle.cms_tlv.specs.Headers.{BeginsWithLength};
 ghost use Rattle.cms_tlv.specs.internal.Whole.{AreWhole, HasWhole, HasHeader, HasHead, Walks, begins_value, short_below};
 
@@ -81,9 +81,9 @@ struct Head {
     len: usize,
 }
 
-/// Whether the octets are whole elements of an opaque value, with at most `depth` elements inside one
-/// another among them; no if one of them must be judged by reading it octet by octet.
-// In a larger function, the loop would not keep all that it needs in registers.
+/// Whether the octets are whole elements of an opaque value, at most `depth` of them nested; no if one
+/// of them must be judged by reading it octet by octet.
+// Inlined into a larger function, the loop would not keep all that it needs in registers.
 #[inline(never)]
 pub(crate) fn are_whole(octets: &[u8], levels: u8, depth: usize) -> bool
     requires { depth ≤ 8 }
@@ -93,8 +93,8 @@ pub(crate) fn are_whole(octets: &[u8], levels: u8, depth: usize) -> bool
         return false;
     }
     let most = (levels as usize).min(depth + 1);
-    // How many octets are left of each element around the innermost one, the outermost at 1. At 0 is
-    // one octet, in which no element begins: so the walk stops once it is out of all.
+    // How many octets are left of each element around the innermost one, the outermost at 1. Entry 0
+    // stays 1: no element fits into one octet, so the walk stops once it has left all elements.
     let mut around = [1; DEPTH + 1];
     let mut walk = Walk {
         at: 0,
@@ -114,7 +114,7 @@ pub(crate) fn are_whole(octets: &[u8], levels: u8, depth: usize) -> bool
     false
 }
 
-/// Goes on until less is left of the innermost element than the shortest element has.
+/// Goes on until fewer octets are left of the innermost element than the shortest element has.
 #[inline(always)]
 fn to_end(octets: &[u8], walk: Walk, around: &mut [usize; DEPTH + 1], most: usize) -> Option<Walk>
     requires few { most ≤ 9 }
