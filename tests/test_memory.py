@@ -19,7 +19,7 @@ from hashlib import sha256
 import findings
 import pytest
 import worst
-from elements import ID_CT_TST_INFO, INDEFINITE, contents_of, element, header, message
+from elements import ID_CT_TST_INFO, INDEFINITE, contents_of, element, header, message, oid
 from programs import ENCLOSING, SMALLEST, Outcome, complaint, octets_of, read_vectors, run
 from signed_by_digest import ALGORITHM, CONTENT, VERSION, signed_by
 
@@ -28,6 +28,8 @@ pytestmark = pytest.mark.built
 SIZE = 16 << 20  # octets of a message, nearly
 MOST_OF_DER = 1.25  # octets of memory for one of a message in DER
 MOST_OF_SEGMENTS = 4.5  # for one of a message whose content is in segments of three octets, header and all
+MOST_OF_BER = 2.5  # for one of a message in BER whose members are long: it is kept, and its DER is collected
+LONG = 1 << 16  # octets of a string that would be borrowed outside sets
 FOLLOWING = 64 << 20  # octets that follow a message
 MOST_OF_A_CHECK = 16 << 20  # octets of memory, whatever follows: half of it is what a process begins with
 MOST_OF_ANY = {"convert": 16, "check": 25}  # octets of memory for one of any message, as SECURITY.md says
@@ -50,6 +52,17 @@ def messages():
         for number in range(SIZE // 16500)
     ]
     yield "signers with attributes", message(VERSION + element(0x31, ALGORITHM) + CONTENT + element(0x31, b"".join(signers)))
+
+
+def countersigned(count):
+    """Returns a message in DER whose signer has so many attributes of a countersignature each, with long signatures."""
+
+    def signer(signature, *others):
+        return element(0x30, VERSION, element(0x80, b"key"), ALGORITHM, ALGORITHM, element(0x04, signature), *others)
+
+    countersignatures = (element(0x31, signer(number.to_bytes(4, "big") + bytes(LONG - 4))) for number in range(count))
+    attributes = b"".join(element(0x30, oid("1.2.840.113549.1.9.6"), it) for it in countersignatures)
+    return message(VERSION + element(0x31, ALGORITHM) + CONTENT + element(0x31, signer(bytes(32), element(0xA1, attributes))))
 
 
 def request(content):
@@ -95,6 +108,8 @@ def cases():
     in_segments, in_one = element(0x24, b"\x04\x01a" * count), element(0x04, b"a" * count)
     ber, der = (message(VERSION + element(0x31, ALGORITHM) + element(0x30, CONTENT[2:] + element(0xA0, it)) + NONE) for it in (in_segments, in_one))
     yield "content in segments of one octet", "convert", ber, (0, der), MOST_OF_SEGMENTS * len(ber)
+    der = countersigned(SIZE // LONG)
+    yield "long signatures in sets", "convert", b"\x30\x80" + contents_of(der) + b"\0\0", (0, der), MOST_OF_BER * len(der)
     content = bytes(FOLLOWING)
     for words, before, lines, status in (
         ("check --content", signed_by(sha256(content).digest()), "F18 signer 0 verifier says unknown\n", 0),
