@@ -1,4 +1,5 @@
 mod Prefixes
 mod Rooms
 mod Conversions
+mod Accepting
 mod Extents

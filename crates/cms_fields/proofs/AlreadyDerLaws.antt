@@ -13,7 +13,7 @@ use Rattle.cms_tlv.specs.Law.{Reads, IsField}
 use Rattle.cms_tlv.proofs.OctetsTaken.{taking_reads}
 use Rattle.cms_fields.specs.Canonical.{IsCanonical, IsByDer, IsDerFramed}
 use Rattle.cms_fields.specs.Readers.{already_der_of}
-use Rattle.cms_fields.specs.Sinks.{Taking, Emits, StopsAt}
+use Rattle.cms_fields.specs.Sinks.{Taking, Emits, MayStop}
 use Rattle.cms_fields.specs.Writing.{IsWritten}
 
 -- what the inner bound reads
@@ -76,5 +76,5 @@ module _ {V : Type 0} (R : Spelling V) where
       pub strict_emits : {S : Type 0} {t : Taking S} {k : List ℕ} {a b : S} → t.puts k a v.0 b → Emits t (with_octets R) alike v k a b
       strict_emits p = record { octets = v.0; put = p; written = itself; each = λ o w. ap length (sym (only o w)) }
 
-      pub strict_stops : {S : Type 0} (t : Taking S) (n : ℕ) → t.stops (n + length v.0) → StopsAt t (with_octets R) alike v n
+      pub strict_stops : {S : Type 0} (t : Taking S) (n : ℕ) → t.stops (n + length v.0) → MayStop t (with_octets R) alike v n
       strict_stops t n l o w = subst (λ z. t.stops (n + length z)) (only o w) l

@@ -9,11 +9,11 @@ use Rattle.std.proofs.lemmas.List.{length-append}
 use Rattle.cms_tlv.specs.Headers.{IsShortLength}
 use Rattle.cms_tlv.specs.Frames.{of_short_length}
 use Rattle.cms_tlv.specs.Spelling.{der, Spelling, element, ◌⨟◌, optional}
-use Rattle.cms_tlv.specs.Writing.{IsHeader}
+use Rattle.cms_tlv.specs.Writing.{IsDerHeader}
 use Rattle.cms_tlv.proofs.HeaderLaws.{short_length_one}
 use Rattle.cms_fields.specs.Canonical.{IsCanonical}
 use Rattle.cms_fields.specs.Received.{as_received}
-use Rattle.cms_fields.specs.Sinks.{Taking, TakingLaws, Emits, StopsAt}
+use Rattle.cms_fields.specs.Sinks.{Taking, TakingLaws, Emits, MayStop}
 use Rattle.cms_fields.specs.Writing.{IsWritten}
 use Rattle.cms_fields.proofs.WriteLaws.{element_written, then_written, written_equal}
 
@@ -28,7 +28,7 @@ module _ {V W : Type 0} {R : Spelling V} {T : Spelling W} {e : V → V → Bool}
     each = λ o x. h.each o ((alike o).1 x);
   }
 
-  pub alike_stops : {S : Type 0} (t : Taking S) (n : ℕ) → StopsAt t R e v n → StopsAt t T f w n
+  pub alike_stops : {S : Type 0} (t : Taking S) (n : ℕ) → MayStop t R e v n → MayStop t T f w n
   alike_stops t n h o x = h o ((alike o).1 x)
 
 -- the parts of what is written for two fields
@@ -60,7 +60,7 @@ module _ {S V W : Type 0} {t : Taking S} (laws : TakingLaws t) {R : Spelling V} 
         omega (arith, h.2);
   }
 
-  pub then_stops : StopsAt t R e v (t.count b) → StopsAt t (R ⨟ T) (λ (x y : V × W). e x.0 y.0 && f x.1 y.1) (v, w) (t.count a)
+  pub then_stops : MayStop t R e v (t.count b) → MayStop t (R ⨟ T) (λ (x y : V × W). e x.0 y.0 && f x.1 y.1) (v, w) (t.count a)
   then_stops l o x =
       let h = then_parts x in
       let i = q.each h.1 h.4 in
@@ -68,7 +68,7 @@ module _ {S V W : Type 0} {t : Taking S} (laws : TakingLaws t) {R : Spelling V} 
       laws.longer (t.count b + length h.0) (t.count a + length o) (l h.0 h.3) (omega (arith, h.2))
 
 pub then_stops_later : {S V W : Type 0} {t : Taking S} (laws : TakingLaws t) (R : Spelling V) {T : Spelling W} (e : V → V → Bool)
-    {f : W → W → Bool} (v : V) {w : W} (n : ℕ) → StopsAt t T f w n → StopsAt t (R ⨟ T) (λ (x y : V × W). e x.0 y.0 && f x.1 y.1) (v, w) n
+    {f : W → W → Bool} (v : V) {w : W} (n : ℕ) → MayStop t T f w n → MayStop t (R ⨟ T) (λ (x y : V × W). e x.0 y.0 && f x.1 y.1) (v, w) n
 then_stops_later laws R e v n l o x =
     let h = then_parts {R = R} {e = e} {v = v} x in
     laws.longer (n + length h.1) (n + length o) (l h.1 h.4) (omega (arith, h.2))
@@ -84,13 +84,13 @@ module _ {V : Type 0} {R : Spelling V} {e : V → V → Bool} {v : V} (id : ℕ)
       go o w (c, of_short_length {l = l} c' p, r) same =
           (c, l, p, (let m = length-append l c in omega arith), record { value = w; spells = r; same = same })
 
-  pub element_stops_inside : {S : Type 0} {t : Taking S} (laws : TakingLaws t) (n : ℕ) → StopsAt t R e v n → StopsAt t (element der id R) e v n
+  pub element_stops_inside : {S : Type 0} {t : Taking S} (laws : TakingLaws t) (n : ℕ) → MayStop t R e v n → MayStop t (element der id R) e v n
   element_stops_inside laws n l o x =
       let h = contents x in
       laws.longer (n + length h.0) (n + length o) (l h.0 h.4) (omega (arith, h.3))
 
   module _ {S : Type 0} {t : Taking S} (laws : TakingLaws t) {k : List ℕ} {a b : S} (p : Emits t R e v k a b) (n : ℕ) (i : n ≡ length p.octets) where
-    pub element_emits : {c : S} → (h : List ℕ) × IsHeader id n h × t.puts k b h c → Emits t (element der id R) e v k a c
+    pub element_emits : {c : S} → (h : List ℕ) × IsDerHeader id n h × t.puts k b h c → Emits t (element der id R) e v k a c
     element_emits {c = c} q =
         let l = q.1.0 in
         let s : IsShortLength l (length p.octets) = subst (IsShortLength l) i q.1.1 in
@@ -106,7 +106,7 @@ module _ {V : Type 0} {R : Spelling V} {e : V → V → Bool} {v : V} (id : ℕ)
               omega (arith, h.3);
         }
 
-    pub element_stops : ((h : List ℕ) → IsHeader id n h → t.stops (t.count b + length h)) → StopsAt t (element der id R) e v (t.count a)
+    pub element_stops : ((h : List ℕ) → IsDerHeader id n h → t.stops (t.count b + length h)) → MayStop t (element der id R) e v (t.count a)
     element_stops q o x =
         let h = contents x in
         let f = p.each h.0 h.4 in
@@ -148,7 +148,7 @@ module _ (P : List ℕ → Type 0) {v : List ℕ} where
     each = λ o x. ap length (itself o x);
   }
 
-  pub received_stops : {S : Type 0} (t : Taking S) (n : ℕ) → t.stops (n + length v) → StopsAt t (as_received P) bytes_eq v n
+  pub received_stops : {S : Type 0} (t : Taking S) (n : ℕ) → t.stops (n + length v) → MayStop t (as_received P) bytes_eq v n
   received_stops t n l o x = subst (λ z. t.stops (n + length z)) (sym (itself o x)) l
 
 -- octets that spell the value, if DER spells each value in one way
@@ -162,5 +162,5 @@ module _ {V : Type 0} {R : Spelling V} {e : V → V → Bool} {v : V} (c : IsCan
   pub canonical_emits : {S : Type 0} {t : Taking S} {k : List ℕ} {a b : S} → t.puts k a o b → Emits t R e v k a b
   canonical_emits p = record { octets = o; put = p; written = spelled; each = λ p w. ap length (only p w) }
 
-  pub canonical_stops : {S : Type 0} (t : Taking S) (n : ℕ) → t.stops (n + length o) → StopsAt t R e v n
+  pub canonical_stops : {S : Type 0} (t : Taking S) (n : ℕ) → t.stops (n + length o) → MayStop t R e v n
   canonical_stops t n l p w = subst (λ z. t.stops (n + length z)) (sym (only p w)) l

@@ -7,8 +7,8 @@ use Rattle.cms_fields.specs.Writing.{IsWritten}
 
 --- `Taking S`: how a sink takes octets
 pub record Taking (S : Type 0) : Type 1 where
-  --- `puts k s octets t`: putting `octets` before what it had taken leads from `s` to `t`; spans name
-  ---   octets of `k`
+  --- `puts k s octets t`: putting `octets` before what it had taken leads from `s` to `t`; spans
+  ---   name octets of `k`
   pub puts : List ℕ → S → List ℕ → S → Type 0
   --- `count s`: how many octets it took
   pub count : S → ℕ
@@ -16,16 +16,16 @@ pub record Taking (S : Type 0) : Type 1 where
   pub stops : ℕ → Type 0
 
 --- `TakingLaws t`: putting no octets may leave it as it is; octets put one after another are put as
----   one list, the later before the earlier; they are counted; and what may stop at `n` octets may at
----   more
+---   one list, the later before the earlier; they are counted; and what may stop at `n` octets may
+---   at more
 pub record TakingLaws {S : Type 0} (t : Taking S) : Type 0 where
   pub nothing : (k : List ℕ) (s : S) → t.puts k s [] s
   pub both : (k p q : List ℕ) (a b c : S) → t.puts k a q b → t.puts k b p c → t.puts k a (p ++ q) c
   pub counted : (k q : List ℕ) (a b : S) → t.puts k a q b → t.count b ≡ t.count a + length q
   pub longer : (n m : ℕ) → t.stops n → n ≤ m → t.stops m
 
---- `Emits t R same v k a b`: octets with `IsWritten R same v` were put, from `a` to `b`, and all such
----   lists are equally long
+--- `Emits t R same v k a b`: octets with `IsWritten R same v` were put, from `a` to `b`, and all
+---   such lists are equally long
 pub record Emits {V S : Type 0} (t : Taking S) (R : Spelling V) (is_same : V → V → Bool) (v : V)
     (k : List ℕ) (a b : S) : Type 0 where
   pub octets : List ℕ
@@ -33,9 +33,9 @@ pub record Emits {V S : Type 0} (t : Taking S) (R : Spelling V) (is_same : V →
   pub written : IsWritten R is_same v octets
   pub each : (o : List ℕ) → IsWritten R is_same v o → length o ≡ length octets
 
---- `StopsAt t R same v n`: it may stop at `n` octets more than any list with `IsWritten R same v` has
-abbrev pub StopsAt : {V S : Type 0} → Taking S → Spelling V → (V → V → Bool) → V → ℕ → Type 0
-StopsAt t R is_same v n = (o : List ℕ) → IsWritten R is_same v o → t.stops (n + length o)
+--- `MayStop t R same v n`: it may stop at `n` octets more than any list with `IsWritten R same v`
+abbrev pub MayStop : {V S : Type 0} → Taking S → Spelling V → (V → V → Bool) → V → ℕ → Type 0
+MayStop t R is_same v n = (o : List ℕ) → IsWritten R is_same v o → t.stops (n + length o)
 
 --- `Sorts t k s frames u`: `frames` were put, in ascending order, from `s` to `u` [X.690, 11.6]
 pub record Sorts {S : Type 0} (t : Taking S) (k : List ℕ) (a : S) (frames : List (List ℕ)) (b : S)

@@ -6,7 +6,7 @@
 ghost use Rattle.std.specs.Prelude.{◌≡◌, ◌+◌, ℕ, List, length, min, OnErr, OnOk};
 ghost use Rattle.cms_tlv.specs.Spans.{borrowed_spans};
 ghost use Rattle.cms_tlv.specs.Spelling.{join};
-ghost use Rattle.cms_tlv.specs.Writing.{IsHeader};
+ghost use Rattle.cms_tlv.specs.Writing.{IsDerHeader};
 ghost use Rattle.cms_fields.specs.Received.{spanned_in};
 
 use crate::indexed::Items;
@@ -49,7 +49,8 @@ pub trait Sink {
     fn span(&mut self, kept: &[u8], span: Span) -> Result<(), Stop>
         ensures ok { OnOk result (taking.puts kept.now self.old
             (octets_in kept.now span.start span.end) self.new) }
-        ensures stops { OnErr result (taking.stops (taking.count self.old + length (octets_in kept.now span.start span.end))) };
+        ensures stops { OnErr result (taking.stops
+            (taking.count self.old + length (octets_in kept.now span.start span.end))) };
 
     /// Takes all octets of `kept` that the spans name in one step, or none. Returns whether it took them.
     fn spans_at_once(&mut self, kept: &[u8], spans: BorrowedSpans<'_>) -> Result<bool, Stop>
@@ -105,9 +106,9 @@ fn emit_each<S: Sink>(spans: BorrowedSpans<'_>, kept: &[u8], sink: &mut S) -> Re
 
 /// Gives a sink the identifier octet `ident` and the shortest length octets of `n` (X.690, 10.1).
 pub(crate) fn emit_header<S: Sink>(ident: u8, n: u64, kept: &[u8], sink: &mut S) -> Result<(), Stop>
-    ensures ok { OnOk result ((b : List ℕ) × IsHeader ident n b
+    ensures ok { OnOk result ((b : List ℕ) × IsDerHeader ident n b
         × S.taking.puts kept.now sink.old b sink.new) }
-    ensures stops { OnErr result ((b : List ℕ) → IsHeader ident n b
+    ensures stops { OnErr result ((b : List ℕ) → IsDerHeader ident n b
         → S.taking.stops (S.taking.count sink.old + length b)) }
 {
     let (octets, start) = header_octets(ident, n);

@@ -7,7 +7,7 @@
 //! dictionary for each bound, and their number would grow with the square of a record's depth.
 ghost use Rattle.std.specs.Prelude.{OnErr, OnOk};
 ghost use Rattle.cms_tlv.specs.Spelling.{element, der};
-ghost use Rattle.cms_fields.specs.Sinks.{Emits, StopsAt};
+ghost use Rattle.cms_fields.specs.Sinks.{Emits, MayStop};
 
 use crate::sink::{Sink, Stop, emit_header};
 
@@ -16,7 +16,7 @@ pub trait Write {
     ghost use Rattle.std.specs.Prelude.{ℕ, List, OnErr, OnOk};
     ghost use Rattle.cms_tlv.specs.Spelling.{der};
     ghost use Rattle.cms_fields.specs.Grammar.{Grammar, IsLawful};
-    ghost use Rattle.cms_fields.specs.Sinks.{Emits, StopsAt};
+    ghost use Rattle.cms_fields.specs.Sinks.{Emits, MayStop};
 
     // The value that it stands for.
     ghost Value: { Type 0 };
@@ -32,7 +32,7 @@ pub trait Write {
         requires { grammar.is_value (value kept.now self.now) }
         ensures ok { OnOk result (Emits S.taking (grammar.spelled der) grammar.same
             (value kept.now self.now) kept.now sink.old sink.new) }
-        ensures stops { OnErr result (StopsAt S.taking (grammar.spelled der) grammar.same
+        ensures stops { OnErr result (MayStop S.taking (grammar.spelled der) grammar.same
             (value kept.now self.now) (S.taking.count sink.old)) };
 
     /// Does nothing. Its contract says of a field: it is read if and only if it is spelled; a spelling
@@ -53,7 +53,7 @@ pub fn emit_element<T: Write, S: Sink>(
     requires { T.grammar.is_value (T.value kept.now contents.now) }
     ensures ok { OnOk result (Emits S.taking (element der ident (T.grammar.spelled der))
         T.grammar.same (T.value kept.now contents.now) kept.now sink.old sink.new) }
-    ensures stops { OnErr result (StopsAt S.taking (element der ident (T.grammar.spelled der))
+    ensures stops { OnErr result (MayStop S.taking (element der ident (T.grammar.spelled der))
         T.grammar.same (T.value kept.now contents.now) (S.taking.count sink.old)) }
 {
     S::law();

@@ -21,7 +21,7 @@ use Rattle.cms_fields.proofs.FirstOctetLaws.{is_primitive}
 use Rattle.cms_fields.proofs.CanonicalLaws.{canonical_by, to_equal, element_framed}
 use Rattle.cms_fields.proofs.DerLaws.{element_by_der}
 use Rattle.cms_fields.proofs.ReaderLaws.{begins_as}
-use Rattle.cms_fields.specs.Sinks.{Taking, Emits, StopsAt}
+use Rattle.cms_fields.specs.Sinks.{Taking, Emits, MayStop}
 use Rattle.cms_fields.proofs.EmitLaws.{canonical_emits, canonical_stops}
 use Rattle.cms_scalars.proofs.Made.{told_reads}
 use Rattle.cms_scalars.specs.Scalars.{bits_of, bits}
@@ -280,7 +280,7 @@ module _ {v c : List ℕ} (k : IsNamedBits der c v) where
   pub bits_emit : {S : Type 0} {t : Taking S} {kept : List ℕ} {a b : S} → t.puts kept a c b → Emits t (IsNamedBits der) bytes_eq v kept a b
   bits_emit = canonical_emits contents_canonical nat_list_eq_equiv k
 
-  pub bits_stop : {S : Type 0} (t : Taking S) (n : ℕ) → t.stops (n + length c) → StopsAt t (IsNamedBits der) bytes_eq v n
+  pub bits_stop : {S : Type 0} (t : Taking S) (n : ℕ) → t.stops (n + length c) → MayStop t (IsNamedBits der) bytes_eq v n
   bits_stop = canonical_stops contents_canonical nat_list_eq_equiv k
 
 pub no_bits : (v : List ℕ) → v ≡ [] → IsNamedBits der (0 ∷ []) v

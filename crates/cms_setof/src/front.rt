@@ -113,8 +113,8 @@ impl Front {
     pub(crate) fn sort_first(&mut self, n: usize) -> Result<(), AllocError>
         requires { n ≤ length self.old }
         ensures { OnOk result ((frames : List (List ℕ)) → AllByRecursion IsDerFrame frames
-            → take n self.old ≡ join frames
-            → (sorted : List ℕ) × AreSorted frames sorted × (self.new ≡ sorted ++ drop n self.old)) }
+            → take n self.old ≡ join frames → (sorted : List ℕ)
+            × AreSorted frames sorted × (self.new ≡ sorted ++ drop n self.old)) }
     {
         let end = self.at + n;
         sort_frames(&mut self.octets[self.at..end], self.alloc)

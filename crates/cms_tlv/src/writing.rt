@@ -2,7 +2,7 @@
 ghost use Rattle.std.specs.Prelude.{◌≡◌, ℕ, ◌+◌, ◌≤◌, List, drop, length, OnOk, OnErr};
 ghost use Rattle.cms_tlv.specs.Headers.{IsShortLength};
 ghost use Rattle.cms_tlv.specs.internal.Digits.{AreDigits};
-ghost use Rattle.cms_tlv.specs.Writing.{AppendsHeader, IsHeader};
+ghost use Rattle.cms_tlv.specs.Writing.{AppendsHeader, IsDerHeader};
 
 use std::alloc::AllocError;
 
@@ -42,7 +42,7 @@ pub fn header_len(n: u64) -> u64
 /// The identifier octet `ident` and the shortest length octets of `n` (X.690, 10.1), at the end of an
 /// array, and where they begin.
 pub fn header_octets(ident: u8, n: u64) -> ([u8; 10], usize)
-    ensures header { IsHeader ident n (drop result.1 result.0) }
+    ensures header { IsDerHeader ident n (drop result.1 result.0) }
     ensures end { result.1 ≤ 8 }
     ensures len { length result.0 ≡ 10 }
 {

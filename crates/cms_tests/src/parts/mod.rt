@@ -1,6 +1,7 @@
 //! Tests of the parts that records are put together from, and of sets, on public calls only.
 
 mod bits;
+mod emitted;
 mod fields;
 mod parts;
 mod records;

@@ -1,6 +1,7 @@
 -- Whole elements of opaque values, one after another.
-use Rattle.std.specs.Prelude.{◌≡◌, ◌≢◌, ℕ, zero, suc, ◌+◌, ◌-◌, ◌%◌, ◌^◌, ◌<◌, ◌≤◌, Bool, not, ◌==◌, ◌&&◌, List, [], ◌∷◌}
-use Rattle.std.specs.Prelude.{◌++◌, length, take, drop, sum, slice_index, Option, if◌then◌else◌}
+use Rattle.std.specs.Prelude.{◌≡◌, ◌≢◌, ℕ, zero, suc, ◌+◌, ◌-◌, ◌%◌, ◌^◌, ◌<◌, ◌≤◌, Bool, not, ◌==◌}
+use Rattle.std.specs.Prelude.{◌&&◌, List, [], ◌∷◌, ◌++◌, length, take, drop, sum, slice_index}
+use Rattle.std.specs.Prelude.{Option, if◌then◌else◌}
 use Rattle.cms_tlv.specs.Headers.{IsIdentifier, IsShortLength}
 use Rattle.cms_tlv.specs.State.{State}
 use Rattle.cms_tlv.specs.Clauses.{Room}
@@ -11,7 +12,7 @@ use Rattle.cms_tlv.specs.Reading.{has_its_form}
 abbrev pub begins_value : ℕ → Bool
 begins_value t = not (t == 0) && (not (t % 32 == 31) && has_its_form t)
 
--- the octets below it are lengths of one octet after the identifier t; none if no value begins with t
+-- the octets below it are lengths of one octet after the identifier t; none if t begins no value
 abbrev pub short_below : ℕ → ℕ
 short_below t = if begins_value t then 0x80 else 0
 
@@ -61,7 +62,7 @@ abbrev pub AreLeft : ℕ → List ℕ → List ℕ → Type 0
 AreLeft d rest [] = Unit {0}
 AreLeft d rest (n ∷ ns) = AreFramed (take n rest) d × AreLeft (d - 1) (drop n rest) ns
 
--- a walk is in elements one inside another, at most so many: the octets are elements if what is left is
+-- a walk is inside at most so many elements: all octets are elements if what is left of each is
 pub record Walks (most : ℕ) (octets around : List ℕ) (at room nested : ℕ) : Type 0 where
   pub ends : at + sum (left_in around room nested) ≡ length octets
   pub few : nested ≤ most
