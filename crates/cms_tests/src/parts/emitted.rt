@@ -13,6 +13,7 @@ use cms_tlv::{BorrowedSpans, OCTET_STRING, Span};
 use std::test::Fail;
 
 /// The octets that spans name.
+#[derive(Drop)]
 struct Pieces(Vec<Span>);
 
 impl Write for Pieces {
@@ -30,6 +31,7 @@ impl Write for Pieces {
 }
 
 /// An OCTET STRING of them.
+#[derive(Drop)]
 struct Joined(Pieces);
 
 impl Write for Joined {
@@ -51,7 +53,12 @@ impl Write for Joined {
 fn pieces_emitted(rt: HostRuntime) -> Result<(), Fail> {
     let kept = b"\x61\x62\x63\x64".as_slice();
     let spans = [Span { start: 3, end: 4 }, Span { start: 0, end: 2 }];
-    assert_same(&rt, spans_len(BorrowedSpans::new(&spans), kept), 3, "the pieces");
+    assert_same(
+        &rt,
+        spans_len(BorrowedSpans::new(&spans), kept),
+        3,
+        "the pieces",
+    );
     let joined = Joined(Pieces(Vec::from_slice(rt.alloc(), &spans)?));
     let len = encoded_len(&joined, kept);
     assert_same(&rt, len.octets, 5, "the element");
