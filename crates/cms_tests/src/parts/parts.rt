@@ -244,7 +244,7 @@ fn long_strings_gathered(rt: HostRuntime) -> Result<(), Fail> {
     Ok(())
 }
 
-/// No string in a set is borrowed, since the set is sorted where it was gathered.
+/// No string in a set is borrowed, since the set is sorted in place.
 #[test]
 fn long_strings_in_sets_gathered(rt: HostRuntime) -> Result<(), Fail> {
     let text = vec![in rt.alloc(); 0x61; LONG]?;
