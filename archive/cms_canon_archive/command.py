@@ -28,10 +28,10 @@ from .indexing import Plan, gathered, index, tend, work
 from .opening import NoIndex, NoStore, for_others, is_sqlite, url_of, without_password
 from .pages import Page
 from .processes import Failed, Processes
-from .reading import Row, parts_of, path_text_of, text_of
+from .reading import Row, parts_of
 from .showing import Bar, line_of_worker
 from .store import Store
-from .texts import escaped_in_json, shown
+from .texts import escaped_in_json, path_text_of, shown, text_of
 from .versions import OtherVersion
 from .walking import entries_of, is_there, tops_of
 from .watching import Watch, given_up, state_of, workers_of

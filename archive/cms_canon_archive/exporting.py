@@ -14,12 +14,13 @@ import sqlalchemy as sa
 import cms_canon
 
 from .containers.finder import found_in
-from .containers.found import Class
+from .containers.found import Class, Found
 from .containers.sources import Budget, in_memory
 from .folders import path_named_by
 from .queries import name_of
-from .reading import NO_PATH, TOO_LONG, Entry, Item, is_cut, items_of, text_of
+from .reading import NO_PATH, TOO_LONG, Entry, found_in_entry
 from .store import FILES, Store
+from .texts import is_cut, text_of
 from .walking import entry_of
 
 _MAY_BE = (Class.MESSAGE, Class.DAMAGED, Class.TOO_LARGE, Class.UNREADABLE)
@@ -57,17 +58,17 @@ def _put(file: Path, der: bytes) -> None:
         raise OSError("there is a file of other octets")
 
 
-def _der_of(item: Item) -> bytes:
+def _der_of(found: Found) -> bytes:
     """Returns the DER of a message that was found. Raises `OSError` if none was."""
-    if item.found.what is not Class.MESSAGE or item.found.octets is None:
-        raise OSError(item.found.note or "there is no message any more")
-    return cms_canon.convert(item.found.octets)
+    if found.what is not Class.MESSAGE or found.octets is None:
+        raise OSError(found.note or "there is no message any more")
+    return cms_canon.convert(found.octets)
 
 
-def _copy(item: Item, digest: str, file: Path) -> Optional[str]:
+def _copy(found: Found, digest: str, file: Path) -> Optional[str]:
     """Writes the DER of a message, and returns why not if that fails."""
     try:
-        der = _der_of(item)
+        der = _der_of(found)
         if hashlib.sha256(der).hexdigest() != digest:
             return "it has changed since it was indexed"
         _put(file, der)
@@ -81,13 +82,13 @@ def _export_file(path: str, digests: Dict[str, str], folder: Path) -> Iterator[C
     named = path_named_by(path)
     why = TOO_LONG if is_cut(path) else NO_PATH if named is None else "it is not there any more"
     outcomes: Dict[str, Optional[str]] = dict.fromkeys(digests, why)
-    for item in items_of(entry_of(named)) if named is not None and not is_cut(path) else ():
-        member = text_of(item.found.where)
+    for found in found_in_entry(entry_of(named)) if named is not None and not is_cut(path) else ():
+        member = text_of(found.where)
         if outcomes.get(member):
             digest = digests[member]
-            outcomes[member] = _copy(item, digest, folder / digest[:2] / digest[2:])
-        elif member == "" and item.found.what is Class.UNREADABLE:
-            outcomes = {name: why and item.found.note for name, why in outcomes.items()}
+            outcomes[member] = _copy(found, digest, folder / digest[:2] / digest[2:])
+        elif member == "" and found.what is Class.UNREADABLE:
+            outcomes = {name: why and found.note for name, why in outcomes.items()}
     for member, why_not in outcomes.items():
         yield Copied(name_of({"path": path, "member": member}), why_not)
 
@@ -103,15 +104,13 @@ def export(store: Store, folder: Path) -> Iterator[Copied]:
 # ---- without a store
 
 
-def _messages_in(path: str) -> Iterator[Item]:
+def _messages_in(path: str) -> Iterator[Found]:
     """Gives the messages in a file, and what seems to be one or cannot be read."""
-    for item in items_of(Entry(os.path.realpath(path), 0, 0, 0)):
-        if item.found.what in _MAY_BE:
-            yield item
+    return (it for it in found_in_entry(Entry(os.path.realpath(path), 0, 0, 0)) if it.what in _MAY_BE)
 
 
-def _name_of_item(path: str, item: Item) -> str:
-    return f"{path}!{item.found.where}" if item.found.where else path
+def _name_of_found(path: str, found: Found) -> str:
+    return f"{path}!{found.where}" if found.where else path
 
 
 def _name_of_copy(name: str) -> str:
@@ -121,21 +120,21 @@ def _name_of_copy(name: str) -> str:
 
 def convert(path: str, folder: Path) -> Iterator[Copied]:
     """Writes the DER of each message in a file to a folder, under its name."""
-    for item in _messages_in(path):
-        name = _name_of_item(os.path.basename(path), item)
+    for found in _messages_in(path):
+        name = _name_of_found(os.path.basename(path), found)
         try:
-            _put(folder / _name_of_copy(name), _der_of(item))
+            _put(folder / _name_of_copy(name), _der_of(found))
         except (OSError, MemoryError, cms_canon.Refused) as why:
-            yield Copied(_name_of_item(path, item), str(why) or "out of memory")
+            yield Copied(_name_of_found(path, found), str(why) or "out of memory")
         else:
-            yield Copied(_name_of_item(path, item), None)
+            yield Copied(_name_of_found(path, found), None)
 
 
 def digests_in(path: str, octets: Optional[bytes]) -> Iterator[Copied]:
     """Gives the SHA-256 of the DER of each message in a file, or in octets if they are given."""
     given = None if octets is None else found_in(in_memory("", octets, Budget(len(octets))))
-    items = _messages_in(path) if given is None else (Item(Entry(path, 0, 0, 0), it) for it in given if it.what in _MAY_BE)
-    yield from _of_each(path, items, lambda der: hashlib.sha256(der).hexdigest())
+    messages = _messages_in(path) if given is None else (it for it in given if it.what in _MAY_BE)
+    yield from _of_each(path, messages, lambda der: hashlib.sha256(der).hexdigest())
 
 
 def shown_in(path: str, show: Callable[[bytes], str]) -> Iterator[Copied]:
@@ -143,10 +142,10 @@ def shown_in(path: str, show: Callable[[bytes], str]) -> Iterator[Copied]:
     return _of_each(path, _messages_in(path), show)
 
 
-def _of_each(path: str, items: Iterable[Item], show: Callable[[bytes], str]) -> Iterator[Copied]:
-    for item in items:
-        name = _name_of_item(path, item)
+def _of_each(path: str, messages: Iterable[Found], show: Callable[[bytes], str]) -> Iterator[Copied]:
+    for found in messages:
+        name = _name_of_found(path, found)
         try:
-            yield Copied(name, None, show(_der_of(item)))
+            yield Copied(name, None, show(_der_of(found)))
         except (OSError, MemoryError, cms_canon.Refused) as why:
             yield Copied(name, str(why) or "out of memory")

@@ -11,14 +11,14 @@ from __future__ import annotations
 
 import errno
 import os
-from typing import AbstractSet, Callable, Dict, Iterable, Iterator, List, NamedTuple, Optional, Set, Tuple
+from typing import AbstractSet, Dict, Iterable, List, NamedTuple, Optional, Set, Tuple
 
 from .containers.packed import why_of
-from .reading import Entry, Row, is_cut, item_of_error, name_of_text, row_in_file, rows_of_entry, text_of
+from .reading import Entry, Read, read_of, reads_of, unread
 from .sessions import Held, Known, New, Outcome
 from .spool import Spool
 from .tables import MOST_CHUNKS
-from .texts import chunk_of
+from .texts import chunk_of, is_cut, name_of_text, text_of
 from .walking import entry_in, entry_of, is_reached
 
 FEW = 2000  # files of a folder that are one part; if there are four times as many, it is divided
@@ -161,24 +161,25 @@ class Reader:
         except OSError as error:
             self.put_error(outcome, "", path.rstrip("/") or "/", why_of(error))
             return []
-        return self._changed(outcome, ((text, entry_in(it, listing.names)) for text, it in listing.files.items()))
+        return self._changed(outcome, listing)
 
     def _changed(self, outcome: Outcome, entries: Iterable[Tuple[str, Entry]]) -> List[Tuple[str, Entry]]:
         """Returns the files that are not stored as they are, and counts the others."""
-        known = self._known.get(outcome.part.id, {})
-        if not known:
+        part = outcome.part
+        known = self._known.get(part.id, {})
+        if not known or part.anew:
             return list(entries)
-        changed, is_same = [], _same_for(outcome.part)
+        changed = []
         for file, entry in entries:
-            if is_same(known.get(file), entry):
+            if _is_same(known.get(file), entry, part.verifies):
                 outcome.unchanged += 1
                 outcome.octets += entry.size
             else:
                 changed.append((file, entry))
         return changed
 
-    def _list(self, outcome: Outcome, path: str) -> Listing:
-        """Lists a folder, and notes the parts in it and what is gone. What are parts of their own is not among the files."""
+    def _list(self, outcome: Outcome, path: str) -> List[Tuple[str, Entry]]:
+        """Lists a folder, and notes the parts in it and what is gone. What are parts of their own is not among the files that it returns."""
         part = outcome.part
         stored = self._known.get(part.id, {})
         listing = listed(path, part.chunk, part.chunks)
@@ -190,16 +191,23 @@ class Reader:
         for name in listing.folders:
             inner, inner_whole = texts_of_folder(path + name)
             outcome.new.append(New(inner, "", 0, 1, inner_whole, part.top, part.anew, part.verifies))
-        own = self._with_parts.get(part.path, set())
-        for text in [text for text, it in listing.files.items() if text in own or _is_large(it)]:
-            outcome.new.append(New(part.path, text, 0, 1, part.whole, part.top, part.anew, part.verifies))
-            del listing.files[text]
-        for text in [text for text, it in listing.files.items() if it.path in self._own] if self._own else ():
-            del listing.files[text]
-        gone = [it for it in stored if it not in listing.files]
+        own, files = self._with_parts.get(part.path, set()), []
+        for text, file in listing.files.items():
+            entry = entry_in(file, listing.names)
+            if text in own or entry.size > LARGE:
+                outcome.new.append(New(part.path, text, 0, 1, part.whole, part.top, part.anew, part.verifies))
+            elif not self._own or entry.path not in self._own:
+                files.append((text, entry))
+        if stored:
+            self._note_gone(outcome, {text for text, _ in files}, own)
+        return files
+
+    def _note_gone(self, outcome: Outcome, there: AbstractSet[str], own: AbstractSet[str]) -> None:
+        """Notes which of the files that are stored of a folder are not there. Those that are parts of their own are not gone."""
+        part = outcome.part
+        gone = [it for it in self._known.get(part.id, {}) if it not in there]
         outcome.dropped += gone
         outcome.gone += sum(it != "" and it not in own and chunk_of(it, outcome.chunks) == part.chunk for it in gone)
-        return listing
 
     def _drop_all(self, outcome: Outcome) -> None:
         stored = self._known.get(outcome.part.id, {})
@@ -208,42 +216,26 @@ class Reader:
 
     def read_file(self, outcome: Outcome, file: str, entry: Entry) -> None:
         """Reads a file."""
-        self.put_rows(outcome, file, entry, rows_of_entry(entry, outcome.part.verifies))
+        self.put(outcome, file, entry, reads_of(entry, outcome.part.verifies))
 
-    def put_rows(self, outcome: Outcome, file: str, entry: Entry, rows: Iterable[Row]) -> None:
-        """Puts the rows of one file in place of those that are stored, if there are any: a worker that lies may have left some."""
+    def put(self, outcome: Outcome, file: str, entry: Entry, reads: Iterable[Read]) -> None:
+        """Puts what was read of one file in place of what is stored of it, if anything is: a worker that lies may have left something."""
         outcome.dropped.append(file)
-        for row in _named_once(rows):
-            self._rows.add(outcome.part.id, file, row)
+        given: Set[str] = set()
+        for read in reads:
+            member = read.place.member
+            if member not in given:  # no two places have one name, but names that are cut
+                given.add(member)
+                self._rows.add(outcome.part.id, file, read)
         outcome.files += 1
         outcome.octets += entry.size
 
     def put_error(self, outcome: Outcome, file: str, path: str, why: str) -> None:
         """Puts a row that says why a file or a folder was not read."""
         entry = Entry(path, 0, 0, 0) if os.path.isdir(path) else entry_of(path)
-        self.put_rows(outcome, file, entry, [row_in_file(item_of_error(entry, why))])
+        self.put(outcome, file, entry, [read_of(entry, unread(entry, why))])
 
 
-def _same_for(part: Held) -> Callable[[Optional[Known], Entry], bool]:
-    """Returns what says whether what is stored of a file of a part is what would be read of it."""
-    if part.anew:
-        return lambda known, entry: False
-    if part.verifies:
-        return lambda known, entry: known is not None and known[4] and known[5] and known[:4] == entry[1:]
-    return lambda known, entry: known is not None and known[4] and known[:4] == entry[1:]
-
-
-def _is_large(file: os.DirEntry[str]) -> bool:
-    try:
-        return file.stat(follow_symlinks=False).st_size > LARGE
-    except OSError:
-        return False
-
-
-def _named_once(rows: Iterable[Row]) -> Iterator[Row]:
-    """Gives the rows of one file. No two places have one name, but names that are cut."""
-    given = set()
-    for row in rows:
-        if row["member"] not in given:
-            given.add(row["member"])
-            yield row
+def _is_same(known: Optional[Known], entry: Entry, verifies: bool) -> bool:
+    """Whether what is stored of a file is what would be read of it."""
+    return known is not None and known[2:6] == entry[1:] and bool(known[6]) and (bool(known[7]) or not verifies)

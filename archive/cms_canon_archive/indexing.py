@@ -18,9 +18,10 @@ from .cluster import Cluster, NoCluster
 from .folders import texts_of_folder
 from .opening import WORKERS_ENDING, for_others
 from .processes import Processes
-from .reading import Part, path_text_of, text_of
+from .reading import Part
 from .store import Store
 from .tables import OF_PARTS, PARTS
+from .texts import path_text_of, text_of
 from .versions import own_version
 from .watching import Counts, State, Watch, counts_in, state_of
 from .working import Options, Worker

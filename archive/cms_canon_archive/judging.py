@@ -10,28 +10,33 @@ from __future__ import annotations
 
 import hashlib
 import warnings
-from dataclasses import dataclass, field
 from functools import lru_cache
-from typing import AbstractSet, Any, Dict, FrozenSet, Iterable, Iterator, List, NamedTuple, Optional, Tuple
+from itertools import islice
+from typing import AbstractSet, Dict, FrozenSet, Iterable, Iterator, List, NamedTuple, Optional, Sequence, Tuple
 
 from cryptography import x509
 from cryptography.hazmat.primitives.asymmetric import dsa, ec, rsa
 
 import cms_canon
-from cms_canon import verifier
+from cms_canon import _facts, verifier
+from cms_canon._facts import token_facts_of
 from cms_canon._names import NAMES
+from cms_canon._rows import dotted
 
-from .containers.found import GOOD, Class, Content, Found, State, digest_of
+from .containers.found import GOOD, Class, Content, Found, State, converted, digest_of
 from .containers.packed import why_of
 from .containers.sources import Ended
+from .texts import text_of
 
 MOST_LISTED = 1000  # signers, tokens or findings of one message that are recorded
 SHORT = 1 << 13  # octets of a certificate of which is kept what it says
+_SHORT_OID = 32  # octets of an OBJECT IDENTIFIER of which the name is kept
 SMALL = 1 << 15  # octets of content that are handed to the library: digests of more are taken piece by piece
 _F6, _F7, _F8, _F9, _F11, _F13, _F14, _F17, _F18 = 6, 7, 8, 9, 11, 13, 14, 17, 18
 _MESSAGE_DIGEST, _SIGNING_TIME = "1.2.840.113549.1.9.4", "1.2.840.113549.1.9.5"
 _OVER_SIGNATURE = {"1.2.840.113549.1.9.16.2.14", "1.3.6.1.4.1.311.3.3.1"}  # tokens for the signature
 _OVER_MORE = {*(f"1.2.840.113549.1.9.16.2.{it}" for it in (25, 26, 27, 48)), "0.4.0.1733.2.4"}  # for the signature and more
+_OF_TIMES = _OVER_SIGNATURE | _OVER_MORE
 _TOKEN = "tSTInfo"
 _UTC_TIME, _GENERALIZED_TIME = 0x17, 0x18
 _PKCS1, _ECDSA, _NIST = "1.2.840.113549.1.1", "1.2.840.10045.4", "2.16.840.1.101.3.4"
@@ -82,14 +87,21 @@ class Time(NamedTuple):
     """Whether its imprint fits what it covers."""
 
 
-@dataclass
-class Facts:
+class Facts(NamedTuple):
     """What is known of what lies at one place."""
 
     what: Class
-    digest: Optional[str] = None
+    digest: Optional[bytes] = None
+    """The SHA-256 of the DER."""
     kind: Optional[str] = None
+    signers: Optional[int] = None
+    """How many there are, without countersigners."""
     is_der: Optional[bool] = None
+    time: Optional[str] = None
+    """That of the token which the message is."""
+    reason: Optional[int] = None
+    name: Optional[str] = None
+    at: Optional[int] = None
     content_type: Optional[str] = None
     content: Optional[str] = None
     state: Optional[State] = None
@@ -98,12 +110,8 @@ class Facts:
     digests: str = ""
     signatures: str = ""
     verdict: Optional[str] = None
-    reason: Optional[int] = None
-    name: Optional[str] = None
-    at: Optional[int] = None
-    signers: List[Signer] = field(default_factory=list)
-    times: List[Time] = field(default_factory=list)
-    signer_count: Optional[int] = None
+    signed_by: Sequence[Signer] = ()
+    times: Sequence[Time] = ()
 
 
 # ---- certificates
@@ -168,7 +176,7 @@ def _read_certificate(octets: bytes) -> Optional[_Certificate]:
         with warnings.catch_warnings():
             warnings.simplefilter("ignore")  # of what a certificate should not have
             read = x509.load_der_x509_certificate(octets)
-        names = read.issuer.rfc4514_string(), read.subject.rfc4514_string()
+        names = text_of(read.issuer.rfc4514_string()), text_of(read.subject.rfc4514_string())
         times = read.not_valid_before.isoformat() + "Z", read.not_valid_after.isoformat() + "Z"
         found = found._replace(issuer_text=names[0], subject=names[1], not_before=times[0], not_after=times[1])
         found = found._replace(signature=_signature_of(read))
@@ -181,8 +189,8 @@ def _read_certificate(octets: bytes) -> Optional[_Certificate]:
 _short_certificate = lru_cache(maxsize=1024)(_read_certificate)
 
 
-def _certificates_of(message: cms_canon.Message) -> List[_Certificate]:
-    found = (_certificate(bytes(it)) for it in (message.certificates or ())[:MOST_LISTED])
+def _certificates_of(der: bytes, facts: _facts.Facts) -> List[_Certificate]:
+    found = (_certificate(der[begin:end]) for begin, end in facts.certificates[:MOST_LISTED])
     return [it for it in found if it is not None]
 
 
@@ -196,6 +204,16 @@ def _oid_name(oid: str) -> str:
     return _NAMES_OF_OIDS.get(oid, oid)
 
 
+@lru_cache(maxsize=256)
+def _short_name(contents: bytes) -> str:
+    return _oid_name(dotted(contents))
+
+
+def _name_of(contents: bytes) -> str:
+    """Returns the name of an OBJECT IDENTIFIER with these contents octets. Those of short ones are kept."""
+    return _short_name(contents) if len(contents) <= _SHORT_OID else _oid_name(dotted(contents))
+
+
 def _one(octets: bytes) -> Optional[Tuple[int, bytes]]:
     """Returns the identifier and the contents of the one element in DER; None if it is not one."""
     try:
@@ -205,13 +223,9 @@ def _one(octets: bytes) -> Optional[Tuple[int, bytes]]:
     return element.identifier, element.contents
 
 
-def _values(attributes: Optional[Tuple[cms_canon.Attribute, ...]], oid: str) -> List[bytes]:
-    return [value for it in attributes or () if it.oid == oid for value in it.values]
-
-
-def _signing_time(signer: cms_canon.SignerInfo) -> Optional[str]:
+def _signing_time(signer: _facts.Signer) -> Optional[str]:
     """Returns the signing time as `2024-02-29T12:00:00Z`; None if there is none that can be read. It is what the signer claims."""
-    values = _values(signer.signed_attributes, _SIGNING_TIME)
+    values = signer.signed.get(_SIGNING_TIME, [])
     found = _one(values[0]) if len(values) == 1 else None
     if found is None or found[0] not in (_UTC_TIME, _GENERALIZED_TIME) or not found[1].endswith(b"Z") or not found[1][:-1].isdigit():
         return None
@@ -221,22 +235,23 @@ def _signing_time(signer: cms_canon.SignerInfo) -> Optional[str]:
     return f"{digits[:4]}-{digits[4:6]}-{digits[6:8]}T{digits[8:10]}:{digits[10:12]}:{digits[12:14]}Z" if len(digits) == 14 else None
 
 
-def _signer(number: str, signer: cms_canon.SignerInfo, certificates: List[_Certificate]) -> Signer:
-    known = next((c for c in certificates if _is_named(c, signer)), _NO_CERTIFICATE)
+def _signer(signer: _facts.Signer, certificates: List[_Certificate]) -> Signer:
+    serial, key_identifier = signer.serial_number, signer.key_identifier
+    known = _certificate_named(certificates, signer.issuer, serial, key_identifier)
     return Signer(
-        number=number,
-        digest=_oid_name(signer.digest_algorithm.oid),
-        signature=_oid_name(signer.signature_algorithm.oid),
-        issuer=known.issuer_text,
-        serial=None if signer.serial_number is None else _hex(signer.serial_number),
-        key_identifier=None if signer.subject_key_identifier is None else signer.subject_key_identifier.hex(),
-        signing_time=_signing_time(signer),
-        subject=known.subject,
-        not_before=known.not_before,
-        not_after=known.not_after,
-        key=known.key,
-        bits=known.bits,
-        certificate=known.signature,
+        signer.number,
+        _name_of(signer.digest_algorithm),
+        _name_of(signer.signature_algorithm),
+        known.issuer_text,
+        None if serial is None else _hex(serial),
+        None if key_identifier is None else key_identifier.hex(),
+        _signing_time(signer),
+        known.subject,
+        known.not_before,
+        known.not_after,
+        known.key,
+        known.bits,
+        known.signature,
     )
 
 
@@ -244,32 +259,23 @@ def _hex(number: int) -> str:
     return f"{'-' if number < 0 else ''}{abs(number):x}"
 
 
-def _is_named(certificate: _Certificate, signer: cms_canon.SignerInfo) -> bool:
-    if signer.subject_key_identifier is not None:
-        return certificate.key_identifier == signer.subject_key_identifier
-    return (certificate.issuer, certificate.serial) == (signer.issuer, signer.serial_number)
+def _certificate_named(certificates: List[_Certificate], issuer: Optional[bytes], serial: Optional[int], key_identifier: Optional[bytes]) -> _Certificate:
+    """Returns the certificate with this key identifier, or else with this issuer and serial number."""
+    if key_identifier is not None:
+        return next((it for it in certificates if it.key_identifier == key_identifier), _NO_CERTIFICATE)
+    return next((it for it in certificates if it.serial == serial and it.issuer == issuer), _NO_CERTIFICATE)
 
 
-def _with_countersigners(signers: Iterable[cms_canon.SignerInfo], before: str = "") -> Iterator[Tuple[str, cms_canon.SignerInfo]]:
-    for number, it in enumerate(signers):
-        yield f"{before}{number}", it
-        if it.unsigned_attributes:
-            yield from _with_countersigners(it.countersignatures, f"{before}{number}.")
-
-
-def _countersigned(signers: Iterable[cms_canon.SignerInfo], before: str = "") -> Iterator[Tuple[str, State]]:
+def _countersigned(signers: Iterable[_facts.Signer]) -> Iterator[Tuple[str, State]]:
     """Gives the number of each countersigner, and whether its digest is that of the signature which it covers."""
-    for number, it in enumerate(signers):
-        if not it.unsigned_attributes:
-            continue
+    for signer in signers:
         digests: Dict[str, bytes] = {}  # of the signature, which many may cover
-        for inner, other in enumerate(it.countersignatures):
-            yield f"{before}{number}.{inner}", _state_of_countersigner(other, it.signature, digests)
-        yield from _countersigned(it.countersignatures, f"{before}{number}.")
+        for countersigner in signer.countersigners:
+            yield countersigner.number, _state_of_countersigner(countersigner, signer.signature, digests)
 
 
-def _state_of_countersigner(countersigner: cms_canon.SignerInfo, signature: bytes, digests: Dict[str, bytes]) -> State:
-    digest, name = _message_digest(countersigner), countersigner.digest_algorithm.name or ""
+def _state_of_countersigner(countersigner: _facts.Signer, signature: bytes, digests: Dict[str, bytes]) -> State:
+    digest, name = _message_digest(countersigner), NAMES.get(dotted(countersigner.digest_algorithm), "")
     if digest is None:
         return State.NO_DIGEST
     if name not in _HASHES:
@@ -279,77 +285,78 @@ def _state_of_countersigner(countersigner: cms_canon.SignerInfo, signature: byte
     return State.FITS if digests[name] == digest else State.DIFFERS
 
 
-def _message_digest(signer: cms_canon.SignerInfo) -> Optional[bytes]:
-    values = _values(signer.signed_attributes, _MESSAGE_DIGEST)
+def _message_digest(signer: _facts.Signer) -> Optional[bytes]:
+    values = signer.signed.get(_MESSAGE_DIGEST, [])
     found = _one(values[0]) if len(values) == 1 else None
     return found[1] if found else None
 
 
-def _some(items: Iterable[Any]) -> List[Any]:
-    return [it for _, it in zip(range(MOST_LISTED), items)]
+def time_text(digits: str) -> str:
+    """Returns a genTime as a listing has it, as `2024-02-29T12:00:00.5Z`."""
+    return f"{digits[:4]}-{digits[4:6]}-{digits[6:8]}T{digits[8:10]}:{digits[10:12]}:{digits[12:]}"
 
 
-def time_text(tst_info: cms_canon.TstInfo) -> str:
-    """Returns genTime as a listing has it, as `2024-02-29T12:00:00.5Z`."""
-    text = tst_info.gen_time_text
-    return f"{text[:4]}-{text[4:6]}-{text[6:8]}T{text[8:10]}:{text[10:12]}:{text[12:]}"
-
-
-def _tst_info(message: cms_canon.Message) -> Optional[cms_canon.TstInfo]:
+def _token_facts(facts: _facts.Facts) -> Optional[_facts.TokenFacts]:
     """Returns what a token says; None if the message is none, or its content is no TSTInfo."""
+    if facts.content is None or not _stamps(facts):
+        return None
     try:
-        return message.tst_info
+        return token_facts_of(facts.content.tobytes())
     except cms_canon.Refused:
         return None
 
 
-def _time(number: str, message: cms_canon.Message, state: State) -> Time:
-    tst_info = _tst_info(message)
-    if tst_info is None:
+def _time(number: str, facts: _facts.Facts, state: State) -> Time:
+    token = _token_facts(facts)
+    if token is None:
         return Time(number, None, None, None, None, State.NO_DIGEST if state in (*GOOD, State.COVERS_MORE) else state)
-    digest = _oid_name(tst_info.imprint.hash_algorithm.oid)
-    return Time(number, time_text(tst_info), tst_info.policy, _hex(tst_info.serial_number), digest, state)
+    return Time(number, time_text(token.time), token.policy, _hex(token.serial_number), _name_of(token.hash_algorithm), state)
 
 
-def _attribute_times(number: str, signer: cms_canon.SignerInfo) -> Iterator[Time]:
+def _attribute_times(signer: _facts.Signer) -> Iterator[Time]:
     """Gives the times of the tokens in the unsigned attributes of a signer. The imprint of one for its signature is compared."""
     count = 0
-    for attribute in signer.unsigned_attributes or ():
-        if attribute.oid not in _OVER_SIGNATURE | _OVER_MORE:
+    for oid, values in signer.unsigned:
+        if oid not in _OF_TIMES:
             continue
-        for value in attribute.values:
-            yield _attribute_time(f"{number}/{count}", value, signer.signature if attribute.oid in _OVER_SIGNATURE else None)
+        for value in values:
+            yield _attribute_time(f"{signer.number}/{count}", value, signer.signature if oid in _OVER_SIGNATURE else None)
             count += 1
 
 
 def _attribute_time(number: str, token: bytes, covered: Optional[bytes]) -> Time:
     try:
-        message = cms_canon.read(token)
+        facts = converted(token).facts
         codes = {it.code for it in cms_canon.check(token, stamped=covered if covered is not None else b"")}
     except cms_canon.Refused:
         return Time(number, None, None, None, None, State.NO_DIGEST)
     if covered is None:
-        return _time(number, message, _state_of_token(message, codes - {_F14}, State.COVERS_MORE))
-    return _time(number, message, _state_of_token(message, codes, State.FITS))
+        return _time(number, facts, _state_of_token(facts, codes - {_F14}, State.COVERS_MORE))
+    return _time(number, facts, _state_of_token(facts, codes, State.FITS))
 
 
 # ---- findings
 
 
-def _is_token(message: cms_canon.Message) -> bool:
+def _stamps(facts: _facts.Facts) -> bool:
+    """Whether the content type is that of a TSTInfo."""
+    return NAMES.get(facts.content_type or "") == _TOKEN
+
+
+def _is_token(facts: _facts.Facts) -> bool:
     """Whether it is of time-stamping. What signs a TSTInfo that lies elsewhere is a signature of that."""
-    return message.kind != "signed-data" or (message.content is not None and NAMES.get(message.content_type or "") == _TOKEN)
+    return facts.kind != "signed-data" or (facts.content is not None and _stamps(facts))
 
 
-def _findings(octets: bytes, message: cms_canon.Message, content: Optional[Content], is_stamped: bool) -> List[cms_canon.Finding]:
+def _findings(octets: bytes, facts: _facts.Facts, content: Optional[Content], is_stamped: bool) -> List[cms_canon.Finding]:
     """Returns what is found with the content, but for verdicts on signatures. `is_stamped` says that it is of time-stamping.
 
     Raises `Ended` if the content has to be a TSTInfo and is too long to be read as one, or if `hashlib` does not know a digest algorithm.
     """
-    if content is None or content.bound is State.UNREADABLE or (message.content is not None and not is_stamped):
+    if content is None or content.bound is State.UNREADABLE or (facts.content is not None and not is_stamped):
         found = cms_canon.check(octets)
     else:
-        if content.length > cms_canon.LIMIT and message.content is None and NAMES.get(message.content_type or "") == _TOKEN:
+        if content.length > cms_canon.LIMIT and facts.content is None and _stamps(facts):
             raise Ended(f"not read as a TSTInfo, which has at most {cms_canon.LIMIT:,} octets here")
         given: cms_canon.Document = b"".join(content.pieces) if content.length <= SMALL else content.pieces
         try:
@@ -375,11 +382,14 @@ class _Verified(NamedTuple):
     """Those of them that are wrong."""
 
 
-def _verified(octets: bytes, message: cms_canon.Message, content: Optional[Content]) -> _Verified:
+_NOT_VERIFIED = _Verified()
+
+
+def _verified(octets: bytes, facts: _facts.Facts, content: Optional[Content]) -> _Verified:
     """Verifies the signatures. If the content itself is signed and is not there, or too long to be handed over, nothing is known."""
-    own = frozenset(number for number, it in enumerate(message.signers) if it.signed_attributes is None)
+    own = _signers_of_content(facts)
     given = None
-    if message.content is None and own:
+    if facts.content is None and own:
         if content is None or content.bound is State.UNREADABLE or content.length > cms_canon.LIMIT:
             return _Verified(_VERDICTS[_F18])
         given = b"".join(content.pieces)
@@ -389,132 +399,158 @@ def _verified(octets: bytes, message: cms_canon.Message, content: Optional[Conte
     return _Verified(_VERDICTS[min(it.code for it in found)] if found else "right", frozenset(it for it in own if it not in not_right), wrong)
 
 
+def _signers_of_content(facts: _facts.Facts) -> FrozenSet[int]:
+    """Returns the numbers of the signers that sign the content itself, since they have no signed attributes."""
+    return frozenset(int(it.number) for it in facts.signers if not it.has_signed_attributes and "." not in it.number)
+
+
 # ---- the state
 
 
-def _kind_of(message: cms_canon.Message, is_token: bool) -> str:
-    if message.kind != "signed-data":
-        return message.kind
-    if not message.signers:
+def _kind_of(facts: _facts.Facts, is_token: bool) -> str:
+    if facts.kind != "signed-data":
+        return facts.kind
+    if not facts.signers:
         return "certificates"
     return "token" if is_token else "signature"
 
 
-def _is_inside(message: cms_canon.Message, content: Content) -> bool:
+def _is_inside(facts: _facts.Facts, content: Content) -> bool:
     """Whether the message holds the very content that it is to cover."""
-    inside = message.content
+    inside = facts.content
     if inside is None or len(inside) != content.length:
         return False
     return digest_of(content.pieces, "sha256") == hashlib.sha256(inside).digest()
 
 
-def _lacks_digest(message: cms_canon.Message, codes: AbstractSet[int], right: AbstractSet[int]) -> bool:
+def _lacks_digest(facts: _facts.Facts, codes: AbstractSet[int], right: AbstractSet[int]) -> bool:
     """Whether no digest of a signer can be compared, unless its signature of the content itself is known to be right."""
-    return _F6 in codes or any(it.signed_attributes is None and number not in right for number, it in enumerate(message.signers))
+    return _F6 in codes or not (_signers_of_content(facts) <= right)
 
 
-def _state_of_token(message: cms_canon.Message, codes: AbstractSet[int], bound: State, right: AbstractSet[int] = frozenset()) -> State:
+def _state_of_token(facts: _facts.Facts, codes: AbstractSet[int], bound: State, right: AbstractSet[int] = frozenset()) -> State:
     """Returns what is known of the digests of a token, and `bound` if all of them fit."""
-    if not message.signers:
+    if not facts.signers:
         return State.NO_SIGNATURE
     if codes & {_F7, _F14}:
         return State.DIFFERS
-    if _lacks_digest(message, codes, right) or codes & {_F9, _F11, _F13}:
+    if _lacks_digest(facts, codes, right) or codes & {_F9, _F11, _F13}:
         return State.NO_DIGEST
     return State.UNKNOWN_DIGEST if _F8 in codes else bound
 
 
-def _state_of_signature(found: Found, message: cms_canon.Message, codes: AbstractSet[int], right: AbstractSet[int]) -> State:
+def _state_of_signature(found: Found, facts: _facts.Facts, codes: AbstractSet[int], right: AbstractSet[int]) -> State:
     content = found.content
-    if message.content is not None and found.is_detached and not (content is not None and _is_inside(message, content)):
+    if facts.content is not None and found.is_detached and not (content is not None and _is_inside(facts, content)):
         return State.DIFFERS if content is not None and content.is_due_inside else State.INSIDE
     if _F9 in codes:
         return State.NOT_FOUND
-    if _lacks_digest(message, codes, right):
+    if _lacks_digest(facts, codes, right):
         return State.NO_DIGEST
     if _F8 in codes:
         return State.UNKNOWN_DIGEST
     return content.bound if content is not None else State.FITS
 
 
-def _state_of(found: Found, message: cms_canon.Message, kind: str, findings: List[cms_canon.Finding], verified: _Verified) -> State:
+def _state_of(found: Found, facts: _facts.Facts, kind: str, codes: AbstractSet[int], verified: _Verified) -> State:
     """Returns what is known of the digests. It says that they fit only if each was compared with the document, or is not there and the
     signature of the content itself was verified."""
-    codes = {it.code for it in findings}
     content = found.content
-    if not message.signers:
+    if not facts.signers:
         return State.NO_SIGNATURE
     if codes & {_F7, _F14} or verified.wrong or (content is not None and content.bound is State.DIFFERS):
         return State.DIFFERS
     if content is not None and content.bound is State.UNREADABLE:
         return State.UNREADABLE
     if kind in ("token", "response"):
-        return _state_of_token(message, codes, State.NOT_FOUND if content is None else content.bound, verified.right)
-    return _state_of_signature(found, message, codes, verified.right)
+        return _state_of_token(facts, codes, State.NOT_FOUND if content is None else content.bound, verified.right)
+    return _state_of_signature(found, facts, codes, verified.right)
 
 
-def _with_countersigned(state: State, message: cms_canon.Message) -> Tuple[State, str]:
+def _with_countersigned(state: State, facts: _facts.Facts) -> Tuple[State, str]:
     """Returns the state with regard to the countersignatures, and a note that names the first of which something is to be said."""
     first: Dict[State, str] = {}
-    for number, it in _countersigned(message.signers):
+    for number, it in _countersigned(facts.signers):
         first.setdefault(it, number)
-    for worse in (State.DIFFERS, State.NO_DIGEST, State.UNKNOWN_DIGEST):
+    for worse in (State.DIFFERS, State.NO_DIGEST, State.UNKNOWN_DIGEST) if first else ():
         if worse in first:
             return worse if worse is State.DIFFERS or state in GOOD else state, f"countersigner {first[worse]}: {worse.value}"
     return state, ""
 
 
 def _note_of(found: Found) -> str:
-    return "; ".join(filter(None, dict.fromkeys((found.content.note if found.content else "", found.note))))
+    if found.content is None:
+        return found.note
+    return _joined(*dict.fromkeys((found.content.note, found.note)))
 
 
-def _where(found: Found, message: cms_canon.Message, is_token: bool) -> Optional[str]:
+def _joined(*notes: str) -> str:
+    return "; ".join(filter(None, notes))
+
+
+def _where(found: Found, facts: _facts.Facts, is_token: bool) -> Optional[str]:
     if found.content is not None:
         return found.content.where
-    return "inside" if not is_token and message.content is not None else None
+    return "inside" if not is_token and facts.content is not None else None
 
 
-def _names(oids: List[str]) -> str:
-    return _oid_name(oids[0]) if len(oids) == 1 else ", ".join(sorted(set(map(_oid_name, oids))))
+def _names(names: Sequence[str]) -> str:
+    """Returns the names of some algorithms in their order, each once."""
+    return names[0] if len(names) == 1 else ", ".join(sorted(set(names)))
+
+
+_text_of_finding = lru_cache(maxsize=256)(str)
+
+
+def _text_of(findings: List[cms_canon.Finding]) -> str:
+    more = f" and {len(findings) - MOST_LISTED:,} more" if len(findings) > MOST_LISTED else ""
+    return "; ".join(map(_text_of_finding, findings[:MOST_LISTED])) + more
+
+
+def _times_of(facts: _facts.Facts, is_token: bool, state: State) -> List[Time]:
+    """Returns the times of the message itself, if it is a token, and of the tokens in unsigned attributes."""
+    signers = facts.signers[:MOST_LISTED]
+    own = [_time("", facts, state)] if is_token and signers else []
+    inner = (time for it in signers if it.unsigned for time in _attribute_times(it))
+    return own + list(islice(inner, MOST_LISTED))
 
 
 def _judged_message(found: Found, octets: bytes, verifies: bool) -> Facts:
-    der = cms_canon.convert(octets)
-    message = cms_canon.read(der)
-    is_token = _is_token(message)
-    kind = _kind_of(message, is_token)
-    findings = _findings(octets, message, found.content, is_token)
-    signers = _some(_with_countersigners(message.signers))
-    certificates = _certificates_of(message)
-    verified = _verified(octets, message, found.content) if verifies and message.signers else _Verified()
-    state, of_countersigners = _with_countersigned(_state_of(found, message, kind, findings, verified), message)
-    own = [_time("", message, state)] if is_token and signers else []
-    times = own + _some(time for number, it in signers if it.unsigned_attributes for time in _attribute_times(number, it))
+    der, facts = found.converted or converted(octets)
+    is_token = _is_token(facts)
+    kind = _kind_of(facts, is_token)
+    findings = _findings(octets, facts, found.content, is_token)
+    codes = {it.code for it in findings}
+    verified = _verified(octets, facts, found.content) if verifies and facts.signers else _NOT_VERIFIED
+    state, of_countersigners = _with_countersigned(_state_of(found, facts, kind, codes, verified), facts)
+    certificates = _certificates_of(der, facts) if facts.signers else []
+    signers = [_signer(it, certificates) for it in facts.signers[:MOST_LISTED]]
+    times = _times_of(facts, is_token, state)
     of_times = next((f"token {it.number}: {it.state.value}" for it in times if it.number and it.state is State.DIFFERS), "")
-    more = f" and {len(findings) - MOST_LISTED:,} more" if len(findings) > MOST_LISTED else ""
     return Facts(
         what=Class.MESSAGE,
-        digest=hashlib.sha256(der).hexdigest(),
+        digest=hashlib.sha256(der).digest(),
         kind=kind,
+        signers=None if facts.content_type is None else facts.signer_count,
         is_der=der == octets,
-        content_type=None if message.content_type is None else _oid_name(message.content_type),
-        content=_where(found, message, is_token),
+        time=times[0].time if times and times[0].number == "" else None,
+        content_type=None if facts.content_type is None else _oid_name(facts.content_type),
+        content=_where(found, facts, is_token),
         state=state,
-        note="; ".join(filter(None, (_note_of(found), of_countersigners, of_times))),
-        findings="; ".join(map(str, findings[:MOST_LISTED])) + more,
-        digests=_names([it.digest_algorithm.oid for _, it in signers]),
-        signatures=_names([it.signature_algorithm.oid for _, it in signers]),
+        note=_joined(_note_of(found), of_countersigners, of_times),
+        findings=_text_of(findings),
+        digests=_names([it.digest for it in signers]),
+        signatures=_names([it.signature for it in signers]),
         verdict=verified.verdict,
-        signers=[_signer(number, it, certificates) for number, it in signers],
+        signed_by=signers,
         times=times,
-        signer_count=None if message.signed_data is None else len(message.signers),
     )
 
 
 def judged(found: Found, verifies: bool = False) -> Facts:
     """Returns what is known of what was found: of what may be a message, whether it is one, or why it is refused."""
     if found.what is not Class.MESSAGE or found.octets is None:
-        return Facts(what=found.what, note=found.note)
+        return Facts(found.what, note=found.note)
     try:
         return _judged_message(found, found.octets, verifies)
     except (OSError, Ended) as why:  # of a content that is read now
@@ -522,4 +558,4 @@ def judged(found: Found, verifies: bool = False) -> Facts:
         unread = Content(where, 0, (), State.UNREADABLE, f"{where}: {why_of(why)}")
         return judged(found.with_content(unread), verifies)
     except cms_canon.Refused as refused:
-        return Facts(what=Class.REFUSED, note=_note_of(found), reason=refused.reason, name=refused.name, at=refused.at)
+        return Facts(Class.REFUSED, note=_note_of(found), reason=refused.reason, name=refused.name, at=refused.at)

@@ -1,20 +1,15 @@
 """What is stored of a file: a row for each place in it at which there is something, and last one for the file itself.
 
-The row of a file comes after those of what is in it. A name is a text from which it can be read back, since neither database takes all
-octets; if it has more than 1,200 octets it is cut and ends with its SHA-256, since PostgreSQL refuses a key of more than 2,704. A row is
-kept as long as this version would store the same: it has a number that is raised with each change of the command or the library by which any
-file would get other rows.
+The row of a file comes after those of what is in it. A row is kept as long as this version would store the same: it has a number that is
+raised with each change of the command or the library by which any file would get other rows.
 """
 
 from __future__ import annotations
 
-import hashlib
 import os
-import re
 import time
-from dataclasses import fields, replace
-from enum import Enum
-from typing import Any, Dict, Iterable, Iterator, List, NamedTuple, Union
+from dataclasses import replace
+from typing import Any, Dict, Iterable, Iterator, List, NamedTuple, Optional, Sequence, Tuple
 
 import cms_canon
 
@@ -25,23 +20,19 @@ from .containers.found import Class, Content, Found, Octets
 from .containers.packed import ENDINGS, PACKINGS, name_inside, why_of
 from .containers.sources import DEEPEST, TooMuch
 from .judging import Facts, Signer, Time, judged
+from .texts import path_text_of, text_of
 
-Value = Union[str, int, bool, None]
-Row = Dict[str, Any]
+Row = Dict[str, Any]  # of a store, or a line of `rows`
+Values = Tuple[Any, ...]
 
 READER = 5  # raised with each change of the command or the library by which a file would get other rows, and with no other
 MOST = (1 << 63) - 1  # the largest number that a store takes
-LONGEST = 1200  # octets of a name in a store: an index of PostgreSQL takes 2,704, a path and the name of a member together
 NO_PATH = "no path is named so"
 TOO_LONG = "its name is too long to be read back"
 SETTLED = 2_000_000_000  # nanoseconds: the clock of a file system may be as coarse
 MOST_BESIDE = 64 << 30  # octets of the document beside a file that are read for all messages in it
 CHUNK = 1000  # rows of one file that are handed over at once
-WRITTEN_OUT = re.compile("[\\\\\0-\x1f\x7f-\x9f\ud800-\udfff]")  # the last are octets that are no UTF-8, as Python has them in names
 _SAYING = (*ENDINGS, *armour.ENDINGS)  # ends of names that may say that the file signs another one
-_CUT = re.compile(r"(?<!\\)(?:\\\\)*\\\.\.\.[0-9a-f]{64}(?:/|\Z)")  # a backslash that is of the name is doubled
-_FACTS = [it.name for it in fields(Facts) if it.name not in ("signers", "times", "signer_count")]
-_NO_FACTS = {it: getattr(Facts(Class.TEXT), it) for it in _FACTS}
 _ERRORS = (Class.UNREADABLE, Class.DAMAGED, Class.TOO_LARGE)
 
 
@@ -57,11 +48,46 @@ class Entry(NamedTuple):
     """The same of the file that it may sign, which lies beside it; empty if there is none."""
 
 
-class Item(NamedTuple):
-    """What was found at one place in a file."""
+class Place(NamedTuple):
+    """What is stored of one place in a file, in the order in which a store is given it: the names of these fields are those of its columns."""
 
-    entry: Entry
-    found: Found
+    member: str
+    length: int
+    size: int
+    changed: int
+    inode: int
+    digest: Optional[bytes]
+    kind: Optional[str]
+    signers: Optional[int]
+    is_der: Optional[bool]
+    time: Optional[str]
+    reason: Optional[int]
+    name: Optional[str]
+    at: Optional[int]
+    error: Optional[str]
+    beside: str
+    what: str
+    form: str
+    content_type: Optional[str]
+    content: Optional[str]
+    state: Optional[str]
+    note: str
+    findings: str
+    digests: str
+    signatures: str
+    verdict: Optional[str]
+    is_settled: bool
+    is_verified: bool
+    library: str
+    reader: int
+
+
+class Read(NamedTuple):
+    """What was read of one place in a file: its own values, and those of each signer and each time, as `Signer` and `Time` have them."""
+
+    place: Place
+    signed_by: Sequence[Values]
+    times: Sequence[Values]
 
 
 class Part(NamedTuple):
@@ -74,44 +100,6 @@ class Part(NamedTuple):
     @property
     def path(self) -> str:
         return str(self.rows[0]["path"])
-
-
-def _written_out(found: re.Match[str]) -> str:
-    if found[0] == "\\":
-        return r"\\"
-    octets = os.fsencode(found[0]) if not "\ud800" <= found[0] < "\udc80" else found[0].encode("utf-8", "surrogatepass")
-    return "".join(f"\\x{octet:02x}" for octet in octets)
-
-
-def text_of(name: str, cuts: bool = True) -> str:
-    r"""Returns a name as text that a store and a terminal can take, another one for each name.
-
-    A backslash is doubled; control characters, and octets that are no UTF-8, are written as `\x1b`. A name that is too long is cut, and
-    ends with its SHA-256.
-    """
-    if len(name) <= LONGEST // 4 and name.isprintable() and "\\" not in name:
-        return name
-    text = WRITTEN_OUT.sub(_written_out, name)
-    if not cuts or 4 * len(text) <= LONGEST or len(octets := text.encode()) <= LONGEST:
-        return text
-    return octets[:LONGEST].decode(errors="ignore") + r"\..." + hashlib.sha256(octets).hexdigest()
-
-
-def path_text_of(path: str) -> str:
-    """Returns a path as text, of which the folder and the name are each cut if they are too long."""
-    folder, name = os.path.split(path)
-    return f"{text_of(folder).rstrip('/')}/{text_of(name)}"
-
-
-def is_cut(text: str) -> bool:
-    """Whether a name, or the folder in a path, was too long for its text, so that it cannot be read back."""
-    return _CUT.search(text) is not None
-
-
-def name_of_text(text: str) -> str:
-    """Returns the name that is written as this text, if it is not too long."""
-    octets = re.sub(rb"\\(?:\\|x(..))", lambda it: bytes.fromhex(it[1].decode()) if it[1] else b"\\", text.encode())
-    return os.fsdecode(octets)
 
 
 def wanted_beside(path: str) -> str:
@@ -151,27 +139,14 @@ class _Metered:
         self._left[0] -= octets
 
 
-def _metered(found: Found, path: str, left: List[int]) -> Found:
+def _metered(found: Found, content: Content, path: str, left: List[int]) -> Found:
     """Returns the same, but if its content is the file that lies beside the one of this path, no more of that is read than is left."""
-    content = found.content
-    if content is None or not (name := os.path.basename(wanted_beside(path))) or content.where != name:
+    if not (name := os.path.basename(wanted_beside(path))) or content.where != name:
         return found
     return found._replace(content=replace(content, pieces=_Metered(content, left)))
 
 
 # ---- rows
-
-
-def _value(value: Union[Value, Enum]) -> Value:
-    if value is None:
-        return None
-    if type(value) is str:
-        return text_of(value) if value else value
-    return str(value.value) if isinstance(value, Enum) else value
-
-
-def _plain(part: Union[Signer, Time]) -> Row:
-    return {name: _value(value) for name, value in part._asdict().items()}
 
 
 def facts_of(found: Found, verifies: bool) -> Facts:
@@ -182,44 +157,58 @@ def facts_of(found: Found, verifies: bool) -> Facts:
         return Facts(what=Class.UNREADABLE, note="out of memory")
 
 
-def row_of(item: Item, verifies: bool = False) -> Row:
-    """Returns what is to be stored of what was found, but for the places of its signers and times."""
-    return {"path": path_text_of(item.entry.path), **row_in_file(item, verifies)}
-
-
-def row_in_file(item: Item, verifies: bool = False) -> Row:
-    """Returns the same without the path of the file."""
-    entry, found = item
+def read_of(entry: Entry, found: Found, verifies: bool = False) -> Read:
+    """Returns what is to be stored of what was found in a file."""
     facts = facts_of(found, verifies)
-    if facts.digest is None and facts.reason is None:  # of what is no message nothing else is known
-        row: Row = {**_NO_FACTS, "what": facts.what.value, "note": _value(facts.note)}
-    else:
-        row = {name: _value(getattr(facts, name)) for name in _FACTS}
+    note = text_of(facts.note) if facts.note else ""
     latest = max(entry.changed, int(entry.beside.split(":")[1])) if entry.beside else entry.changed
-    row.update(
-        member=text_of(found.where) if found.where else "",
-        length=min(found.length, MOST),
-        size=entry.size,
-        changed=entry.changed,
-        inode=entry.inode,
-        beside=entry.beside,
-        form=_value(found.form),
-        error=row["note"] if facts.what in _ERRORS else None,
-        signers=facts.signer_count,
-        time=facts.times[0].time if facts.times and facts.times[0].number == "" else None,
-        is_settled=time.time_ns() - latest > SETTLED,
-        is_verified=verifies,
-        library=cms_canon.__version__,
-        reader=READER,
-        signed_by=[_plain(it) for it in facts.signers],
-        times=[_plain(it) for it in facts.times],
+    place = Place(
+        text_of(found.where) if found.where else "",
+        min(found.length, MOST),
+        entry.size,
+        entry.changed,
+        entry.inode,
+        facts.digest,
+        facts.kind,
+        facts.signers,
+        facts.is_der,
+        facts.time,
+        facts.reason,
+        facts.name,
+        facts.at,
+        note if facts.what in _ERRORS else None,
+        entry.beside,
+        facts.what.value,
+        text_of(found.form),
+        facts.content_type,
+        text_of(facts.content) if facts.content else facts.content,
+        None if facts.state is None else facts.state.value,
+        note,
+        facts.findings,
+        facts.digests,
+        facts.signatures,
+        facts.verdict,
+        time.time_ns() - latest > SETTLED,
+        verifies,
+        cms_canon.__version__,
+        READER,
     )
+    return Read(place, facts.signed_by, [(*it[:-1], it.state.value) for it in facts.times])
+
+
+def row_in_file(read: Read) -> Row:
+    """Returns the same by the names of columns, but for the path of the file."""
+    place, signed_by, times = read
+    row = place._asdict()
+    row["digest"] = None if place.digest is None else place.digest.hex()
+    row["signed_by"] = [dict(zip(Signer._fields, it)) for it in signed_by]
+    row["times"] = [dict(zip(Time._fields, it)) for it in times]
     return row
 
 
-def item_of_error(entry: Entry, error: str) -> Item:
-    """Returns what is said of a file that was not read because of an error."""
-    return Item(entry, unread(entry, error))
+def row_of(entry: Entry, found: Found, verifies: bool = False) -> Row:
+    """Returns the line of `rows` for what was found in a file."""
+    return {"path": path_text_of(entry.path), **row_in_file(read_of(entry, found, verifies))}
 
 
 def unread(entry: Entry, error: str) -> Found:
@@ -227,21 +216,23 @@ def unread(entry: Entry, error: str) -> Found:
     return Found("", "file", Class.UNREADABLE, entry.size, note=error)
 
 
-def items_of(entry: Entry) -> Iterator[Item]:
+def found_in_entry(entry: Entry) -> Iterator[Found]:
     """Gives what is found in a file, and last the file itself."""
     left = [MOST_BESIDE]
+    absent = "" if entry.beside else wanted_beside(entry.path)  # at least when the folder was listed: if it came since, the file is read again
     try:
-        for it in found_in_path(entry.path):
-            yield Item(entry, _metered(it, entry.path, left))
+        for it in found_in_path(entry.path, absent):
+            yield it if it.content is None else _metered(it, it.content, entry.path, left)
     except MemoryError:
-        yield Item(entry, unread(entry, "out of memory"))
+        yield unread(entry, "out of memory")
     except (OSError, Unreadable) as error:
-        yield Item(entry, unread(entry, why_of(error)))
+        yield unread(entry, why_of(error))
 
 
-def rows_of_entry(entry: Entry, verifies: bool = False) -> Iterator[Row]:
-    """Gives the rows of a file without its path, that of the file itself last."""
-    return (row_in_file(it, verifies) for it in items_of(entry))
+def reads_of(entry: Entry, verifies: bool = False) -> Iterator[Read]:
+    """Reads a file, and gives what is to be stored of each place in it, the file itself last."""
+    for it in found_in_entry(entry):
+        yield read_of(entry, it, verifies)
 
 
 def parts_of_rows(rows: Iterable[Row]) -> Iterator[Part]:
@@ -265,4 +256,4 @@ def parts_of_rows(rows: Iterable[Row]) -> Iterator[Part]:
 def parts_of(entries: Iterable[Entry], verifies: bool = False) -> Iterator[Part]:
     """Reads files, and gives their rows."""
     for entry in entries:
-        yield from parts_of_rows(row_of(it, verifies) for it in items_of(entry))
+        yield from parts_of_rows(row_of(entry, it, verifies) for it in found_in_entry(entry))

@@ -14,7 +14,7 @@ import socket
 import time
 from contextlib import contextmanager
 from threading import Event, Lock, Thread
-from typing import Any, Dict, Iterator, List, NamedTuple, Optional, Sequence, Set
+from typing import Any, Dict, Iterator, List, NamedTuple, Optional, Sequence, Set, Tuple
 
 import sqlalchemy as sa
 from sqlalchemy.dialects import postgresql, sqlite
@@ -71,19 +71,12 @@ class New(NamedTuple):
     verifies: bool
 
 
-class Known(NamedTuple):
-    """What is stored of a file itself."""
+Known = Tuple[int, str, int, int, int, str, bool, bool]
+"""What is stored of a file itself, as the database gives it, since there is one for each file of an archive: its part, its name, the four values
+of an `Entry` after its path, whether it is good, and whether it is verified. It is good if it could be read, had not changed just before, and
+would be read the same by this version."""
 
-    size: int
-    changed: int
-    inode: int
-    beside: str
-    is_good: bool
-    """Whether it could be read, had not changed just before, and would be read the same by this version."""
-    is_verified: bool
-
-
-NOTHING = Known(0, 0, 0, "", False, False)
+NOTHING: Known = (0, "", 0, 0, 0, "", False, False)
 """What is known of a file that has rows, and none of its own."""
 
 
@@ -324,10 +317,10 @@ class Session:
         asked = sa.select(*columns).where(own.part.in_(ids), own.member == "")
         of_many = [it.id for it in parts if it.is_stored and (it.anew or it.name == "")]
         with self._reading() as connection:
-            for part, name, *rest in connection.execute(asked).all():
-                known[part][name] = Known._make(rest)
+            for row in _values_of(connection, asked):
+                known[row[0]][row[1]] = row
             for table in OF_PARTS if of_many else ():
-                for part, name in connection.execute(_without_own_row(table, of_many)):
+                for part, name in _values_of(connection, _without_own_row(table, of_many)):
                     known[part].setdefault(name, NOTHING)
         return known
 
@@ -444,6 +437,14 @@ class Session:
         sums: Dict[str, Any] = {name: WORKERS.c[name] + sum(getattr(it, name) for it in outcomes) for name in names}
         sums.update(parts=WORKERS.c.parts + (len(outcomes) if parts is None else parts), seen=int(time.time()))
         connection.execute(sa.update(WORKERS).where(WORKERS.c.id == self.number).values(**sums))
+
+
+def _values_of(connection: sa.engine.Connection, asked: Any) -> List[Any]:
+    """Returns the rows of a query as the driver has them, of which SQLAlchemy would make one object more each."""
+    result = connection.execute(asked)
+    rows: List[Any] = result.cursor.fetchall()
+    result.close()
+    return rows
 
 
 def _without_own_row(table: sa.Table, ids: Sequence[int]) -> Any:

@@ -9,19 +9,15 @@ from __future__ import annotations
 import io
 import pickle
 import tempfile
-from operator import itemgetter
-from typing import IO, Any, Callable, Dict, Iterable, Iterator, List, Optional, Tuple
+from typing import IO, Any, Dict, Iterable, Iterator, List, Optional, Tuple
 
 import sqlalchemy as sa
 from sqlalchemy.exc import DBAPIError
 
-from .reading import Row
-from .tables import LISTS, PLACES, columns_of
-
-Values = Tuple[Any, ...]
+from .reading import Read, Values
+from .tables import LISTS, PLACES, PLACE_SIGNERS, PLACE_TIMES
 
 TOGETHER = 10_000  # rows that are in memory: the rows of a tar may be millions
-_FIELDS: Dict[sa.Table, Callable[[Row], Values]] = {it: itemgetter(*(c.name for c in columns_of(it))) for it in (PLACES, *LISTS.values())}
 
 
 class Spool:
@@ -29,22 +25,22 @@ class Spool:
 
     def __init__(self, worker: int) -> None:
         """`worker` is the number of who reads them."""
-        self._worker = worker
+        self._worker = (worker,)
         self._rows: Dict[sa.Table, List[Values]] = {PLACES: [], **{it: [] for it in LISTS.values()}}
         self._tables = list(self._rows)
         self._in_memory = 0
         self._file: Optional[IO[bytes]] = None
 
-    def add(self, part: int, file: str, row: Row) -> None:
-        """Adds a row, with its signers and times, under the name of its file."""
-        key = (part, file, row["member"])
-        self._rows[PLACES].append((*key, *_FIELDS[PLACES](row), self._worker))
-        for name, table in LISTS.items():
-            if row[name]:
-                fields = _FIELDS[table]
-                self._rows[table] += [key + fields(it) for it in row[name]]
-                self._in_memory += len(row[name])
-        self._in_memory += 1
+    def add(self, part: int, file: str, read: Read) -> None:
+        """Adds what was read of one place, under the name of its file. The values of each are in the order of the columns."""
+        place, signed_by, times = read
+        named = (part, file)
+        self._rows[PLACES].append(named + place + self._worker)
+        if signed_by:
+            self._rows[PLACE_SIGNERS] += [(part, file, place.member, *it) for it in signed_by]
+        if times:
+            self._rows[PLACE_TIMES] += [(part, file, place.member, *it) for it in times]
+        self._in_memory += 1 + len(signed_by) + len(times)
         if self._in_memory >= TOGETHER:
             self._put_away()
 
@@ -88,13 +84,7 @@ def store(connection: sa.engine.Connection, pieces: Iterable[Tuple[sa.Table, Lis
 
 def _insert(connection: sa.engine.Connection, table: sa.Table, rows: List[Values]) -> None:
     places = ", ".join("?" * len(table.columns))
-    at = [it.name for it in table.columns].index("digest") if table is PLACES else None
-    values = rows if at is None else [_with_octets(it, at) for it in rows]
-    connection.exec_driver_sql(f"INSERT INTO {table.name} VALUES ({places})", values)
-
-
-def _with_octets(row: Values, at: int) -> Values:
-    return row if row[at] is None else (*row[:at], bytes.fromhex(row[at]), *row[at + 1 :])
+    connection.exec_driver_sql(f"INSERT INTO {table.name} VALUES ({places})", rows)
 
 
 def _copy(connection: sa.engine.Connection, table: sa.Table, rows: List[Values]) -> None:
@@ -120,7 +110,7 @@ def _line(row: Values, digest_at: Optional[int]) -> str:
     """Returns a row as COPY takes it. Few rows have anything that is to be escaped, so all of a row is looked at once."""
     words = [it if type(it) is str else _NULL if it is None else _word(it) for it in row]
     if digest_at is not None and row[digest_at] is not None:
-        words[digest_at] = _OCTETS + row[digest_at]
+        words[digest_at] = _OCTETS + row[digest_at].hex()
     line = "\t".join(words)
     if "\\" in line or "\n" in line or "\r" in line or line.count("\t") >= len(words):
         line = "\t".join([it if it is _NULL or n == digest_at else it.translate(_ESCAPES) for n, it in enumerate(words)])

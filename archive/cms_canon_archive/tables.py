@@ -19,7 +19,7 @@ from sqlalchemy.ext.compiler import compiles
 from cms_canon._texts import REFUSALS
 
 from .containers.found import Class, State
-from .reading import LONGEST
+from .texts import LONGEST
 
 SCHEMA = 4  # the version of the tables: 1 is that of releases up to 0.8.0, which say no version, 2 of 0.9.0, and 3 of those from 0.10.0 to 0.17.0
 MOST_CHUNKS = 16  # of a folder: each lists all of it

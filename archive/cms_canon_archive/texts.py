@@ -1,8 +1,59 @@
-"""Names and numbers as they are shown."""
+"""Names as a store has them, and names and numbers as they are shown.
 
+A name is a text from which it can be read back, since neither database takes all octets. If it has more than 1,200 octets it is cut and ends
+with its SHA-256, since PostgreSQL refuses a key of more than 2,704.
+"""
+
+from __future__ import annotations
+
+import hashlib
 import json
+import os
+import re
 import zlib
 from typing import Tuple
+
+LONGEST = 1200  # octets of a name in a store: an index of PostgreSQL takes 2,704, a path and the name of a member together
+WRITTEN_OUT = re.compile("[\\\\\0-\x1f\x7f-\x9f\ud800-\udfff]")  # the last are octets that are no UTF-8, as Python has them in names
+_CUT = re.compile(r"(?<!\\)(?:\\\\)*\\\.\.\.[0-9a-f]{64}(?:/|\Z)")  # a backslash that is of the name is doubled
+
+
+def _written_out(found: re.Match[str]) -> str:
+    if found[0] == "\\":
+        return r"\\"
+    octets = os.fsencode(found[0]) if not "\ud800" <= found[0] < "\udc80" else found[0].encode("utf-8", "surrogatepass")
+    return "".join(f"\\x{octet:02x}" for octet in octets)
+
+
+def text_of(name: str, cuts: bool = True) -> str:
+    r"""Returns a name as text that a store and a terminal can take, another one for each name.
+
+    A backslash is doubled; control characters, and octets that are no UTF-8, are written as `\x1b`. A name that is too long is cut, and
+    ends with its SHA-256.
+    """
+    if len(name) <= LONGEST // 4 and name.isprintable() and "\\" not in name:
+        return name
+    text = WRITTEN_OUT.sub(_written_out, name)
+    if not cuts or 4 * len(text) <= LONGEST or len(octets := text.encode()) <= LONGEST:
+        return text
+    return octets[:LONGEST].decode(errors="ignore") + r"\..." + hashlib.sha256(octets).hexdigest()
+
+
+def path_text_of(path: str) -> str:
+    """Returns a path as text, of which the folder and the name are each cut if they are too long."""
+    folder, name = os.path.split(path)
+    return f"{text_of(folder).rstrip('/')}/{text_of(name)}"
+
+
+def is_cut(text: str) -> bool:
+    """Whether a name, or the folder in a path, was too long for its text, so that it cannot be read back."""
+    return _CUT.search(text) is not None
+
+
+def name_of_text(text: str) -> str:
+    """Returns the name that is written as this text, if it is not too long."""
+    octets = re.sub(rb"\\(?:\\|x(..))", lambda it: bytes.fromhex(it[1].decode()) if it[1] else b"\\", text.encode())
+    return os.fsdecode(octets)
 
 
 def shown(name: str) -> str:

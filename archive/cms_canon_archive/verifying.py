@@ -16,11 +16,11 @@ import sqlalchemy as sa
 from .containers.packed import why_of
 from .folders import NOT_THERE, Listing, is_gone, listed, path_named_by, path_of, texts_of_folder
 from .queries import name_of
-from .reading import NO_PATH, TOO_LONG, Entry, Row, is_cut, name_of_text, rows_of_entry
+from .reading import NO_PATH, TOO_LONG, Entry, Row, reads_of, row_in_file
 from .sessions import Held
 from .store import ASKED, Store
 from .tables import LISTS, OF_PARTS, PARTS, PLACES, WORKERS, PartState, columns_of
-from .texts import chunk_of, folder_and_name
+from .texts import chunk_of, folder_and_name, is_cut, name_of_text
 from .walking import entry_of, is_reached
 
 NOT_STORED = "it is not stored"
@@ -278,7 +278,7 @@ def _is_file(path: str) -> bool:
 def _compared_with_file(file: _Stored, path: str, default: Optional[int]) -> Iterator[Difference]:
     entry = Entry(path, 0, 0, 0) if file.is_folder else entry_of(path)
     verifies = file.verifies or any(row["is_verified"] for row in file.places.values())
-    came = {str(row["member"]): row for row in rows_of_entry(entry, verifies)}
+    came = {it.place.member: row_in_file(it) for it in reads_of(entry, verifies)}
     for member in sorted({*file.places, *came}):
         stored = file.places.get(member)
         if why := _difference(stored, came.get(member)):

@@ -73,7 +73,7 @@ def test_attributes(archive, home, make):
         count_same(name, (came, numbers, times), ({"": FITS}, [f"0/{it}" for it in range(len(wanted))], wanted))
     countersigner = last_of(make.cms(signature), SIGNER_INFO)
     _, facts = said_in(archive, home, "counter.p7m", with_unsigned(der, {COUNTERSIGNATURE: countersigner}))
-    came = [(it.number, it.subject, it.digest) for it in facts[""].signers]
+    came = [(it.number, it.subject, it.digest) for it in facts[""].signed_by]
     count_same("a countersignature", came, [("0", "CN=Signer", "sha256"), ("0.0", "CN=Signer", "sha256")])
     # Of several signers the one of which least is known decides, and one that does not fit before all.
     without, other = (last_of(make.cms(octets, *words), SIGNER_INFO) for octets, words in ((DOCUMENT, ["-noattr"]), (TEXT, [])))
@@ -284,8 +284,8 @@ def test_errors_of_the_disk(archive, home, make):
             wrong = [at for at in range(reads.call_count) if not _ends_by_disk(archive, path, at)]
         count(f"errors of the disk, {name}, {reads.call_count} reads", wrong if reads.called else "nothing was read")
     with mock.patch.object(archive.files, "_read", side_effect=archive.files.Unreadable("Input/output error")):
-        (row,) = archive.reading.rows_of_entry(archive.walking.entry_of(f"{home}/disk.zip"))
-    count_same("an error of the disk, of a short file", (row["what"], row["error"]), ("unreadable", "Input/output error"))
+        (row,) = archive.reading.reads_of(archive.walking.entry_of(f"{home}/disk.zip"))
+    count_same("an error of the disk, of a short file", (row.place.what, row.place.error), ("unreadable", "Input/output error"))
 
 
 def is_raised(error, act) -> bool:

@@ -171,7 +171,7 @@ def rows_of(archive, folder, name, octets, verifies=False, **beside):
     """Returns the rows of a file with others beside it, by their places."""
     write_files(folder, {name: octets, **beside})
     entry = archive.walking.entry_of(str(folder / name))
-    return {row["member"]: row for row in (archive.reading.row_of(item, verifies) for item in archive.reading.items_of(entry))}
+    return {row["member"]: row for row in (archive.reading.row_of(entry, found, verifies) for found in archive.reading.found_in_entry(entry))}
 
 
 def requests_of(make):
@@ -282,8 +282,8 @@ def test_changed_just_before(home, archive, make):
     entry = archive.walking.entry_of(str(folder / "doc.p7s"))
     settled = {}
     for name, changed, beside in (("now", time.time_ns(), 0), ("long ago", 1, 1), ("the content now", 1, time.time_ns())):
-        item = archive.reading.Item(entry._replace(changed=changed, beside=f"1:{beside}:1"), archive.reading.unread(entry, "any"))
-        settled[name] = archive.reading.row_of(item)["is_settled"]
+        read = archive.reading.read_of(entry._replace(changed=changed, beside=f"1:{beside}:1"), archive.reading.unread(entry, "any"))
+        settled[name] = read.place.is_settled
     count_same("what changed just before", settled, {"now": False, "long ago": True, "the content now": False})
     command(home, "index", folder, "--store", "changing.db")
     asked(home / "changing.db", "UPDATE places SET is_settled = 0")

@@ -8,10 +8,10 @@ import os
 import stat
 from typing import Any, BinaryIO, Iterable, Iterator, Optional, Tuple
 
-from .finder import found_in
+from .finder import found_alone, found_inside
 from .found import Class, Content, Found, Octets, Pieces, State, numbered
 from .packed import why_of
-from .sources import PIECE, Budget, Ended, Source, TooMuch
+from .sources import PIECE, Budget, Ended, Source, TooMuch, in_memory
 
 SMALL = 1 << 20  # octets of content that is read at once
 SHORT = 1 << 16  # octets of a file that is read at once
@@ -103,30 +103,54 @@ def _read(descriptor: int, most: int) -> bytes:
         raise Unreadable(why_of(error)) from error
 
 
-def _begun(path: str) -> Tuple[BinaryIO, int]:
-    """Returns a regular file and its size: a short one is read at once, and closed. Raises `OSError` if it is of another kind by now."""
+def _begun(path: str) -> Tuple[bytes, Optional[BinaryIO], int]:
+    """Returns the octets of a short regular file, or a longer one opened; and its size. Raises `OSError` if it is of another kind by now."""
     descriptor = os.open(path, _FLAGS)
     try:
         status = os.fstat(descriptor)
+        size = status.st_size
         _refuse_others(status.st_mode)
-        if status.st_size < SHORT:
-            octets = _read(descriptor, status.st_size + 1)
-            if len(octets) == status.st_size:
+        if size < SHORT:
+            octets = _read(descriptor, size + 1)
+            if len(octets) == size:
                 os.close(descriptor)
-                return _Short(octets), status.st_size
+                return octets, None, size
             os.lseek(descriptor, 0, os.SEEK_SET)
     except BaseException:
         os.close(descriptor)
         raise
-    return io.BufferedReader(_File(descriptor)), status.st_size
+    return b"", io.BufferedReader(_File(descriptor)), size
 
 
-def found_in_path(path: str) -> Iterator[Found]:
-    """Gives what is found in a file, and last the file itself. Raises `OSError` or `Unreadable` if it cannot be read."""
-    file, size = _begun(path)
-    with file:
-        try:
-            for it in numbered(found_in(Source(path, file, size, Budget(size), is_seekable=True))):
-                yield it.with_content(beside(it.wants)) if it.wants else it
-        except TooMuch as why:
-            yield Found("", "file", Class.TOO_LARGE, size, note=str(why))
+def found_in_path(path: str, absent: str = "") -> Iterator[Found]:
+    """Gives what is found in a file, and last the file itself. Raises `OSError` or `Unreadable` if it cannot be read.
+
+    `absent` is the path of a file beside it that is known not to be there.
+    """
+    octets, file, size = _begun(path)
+    budget = Budget(size)
+    if file is not None:
+        with file:
+            yield from _found_in(Source(path, file, size, budget, is_seekable=True), absent)
+        return
+    source = in_memory(path, octets, budget, _Short)
+    alone = found_alone(source)
+    if alone is None:
+        yield from _found_in(source, absent)
+    else:
+        yield _with_content(alone, absent)
+
+
+def _with_content(found: Found, absent: str) -> Found:
+    if not found.wants:
+        return found
+    return found.with_content(None if found.wants == absent else beside(found.wants))
+
+
+def _found_in(source: Source, absent: str) -> Iterator[Found]:
+    size = source.size
+    try:
+        for it in numbered(found_inside(source)):
+            yield _with_content(it, absent)
+    except TooMuch as why:
+        yield Found("", "file", Class.TOO_LARGE, size, note=str(why))

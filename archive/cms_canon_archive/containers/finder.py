@@ -7,24 +7,29 @@ only say that it is something else.
 from __future__ import annotations
 
 from functools import partial
-from typing import Callable, Dict, Iterator, Optional, Tuple
+from typing import Callable, Iterator, Optional, Tuple
 
 import cms_canon
 
 from . import armour, mail, marks, named, packed, pdf, zips
-from .found import Class, Found, counted, is_message
+from .found import Class, Converted, Found, converted, is_message
 from .packed import Packing
-from .sources import DEEPEST, DEEPEST_MAIL, TEXT, Ended, Source, TooLarge, in_memory
+from .sources import DEEPEST, DEEPEST_MAIL, Ended, Source, TooLarge, in_memory, is_text
 
 Into = Callable[[], Iterator[Found]]
 Look = Tuple[str, Into]  # what kind of file it seems to be, and what looks into it
 
 SIGNATURE_ENDINGS = (".p7s", ".p7m", ".p7c", ".cms", ".tsq", ".tsr", ".tst")  # a file so named lies where a message is due
 _ELEMENT = b"\x30"
-_DATA = tuple(bytes.fromhex("2a864886f70d010701") + it for it in (b"\xa0", b"\x24", b"\x04"))  # the type of contents, and how one begins
+_DATA = bytes.fromhex("2a864886f70d010701")  # the type of contents that are looked into
+_BEGINNINGS_OF_CONTENT = (b"\xa0", b"\x24", b"\x04")
 _SIGNED_CONTENT = "signed content"
 _UTF_16 = (b"\xff\xfe", b"\xfe\xff")
 _BEGIN = b"-----BEGIN "
+_FROM = b"From "
+_NOTHING = (Class.TEXT, Class.NO_CANDIDATE, Class.EMPTY)  # what is not said of the content of a message
+_BEGINNINGS = {it[:2] for it in (pdf.BEGIN, *zips.MAGICS, *packed.MAGICS, *marks.BEGINNINGS)}
+_NAMES = (*zips.ENDINGS, *packed.ENDINGS, packed.TAR_ENDING)
 
 
 def found_in(source: Source, depth: int = 0, mails: int = 0) -> Iterator[Found]:
@@ -32,14 +37,23 @@ def found_in(source: Source, depth: int = 0, mails: int = 0) -> Iterator[Found]:
 
     Raises `Ended` if no more of the file may or can be read. Whatever else is wrong in it is said in what is found.
     """
-    tally: Dict[str, int] = {}
+    alone = found_alone(source)
+    return found_inside(source, depth, mails) if alone is None else iter((alone,))
+
+
+def found_inside(source: Source, depth: int = 0, mails: int = 0) -> Iterator[Found]:
+    """Gives the same of a source in which something else may lie."""
+    holds_messages = False
     form, look = _look_for(source, depth, mails)
     own = None
     try:
-        for place in counted(look(), tally):
+        for place in look():
             if place.what is Class.MESSAGE and not place.is_opened:
-                yield from _in_signed_content(place, source, depth, mails)
-                place = place._replace(is_opened=True)
+                message = _converted(place)
+                if message is not None:
+                    yield from _in_signed_content(place, message, source, depth, mails)
+                place = place.opened(message)
+            holds_messages = holds_messages or place.what in (Class.MESSAGE, Class.CONTAINER)
             if place.where == "":
                 own = place
             else:
@@ -53,40 +67,106 @@ def found_in(source: Source, depth: int = 0, mails: int = 0) -> Iterator[Found]:
     except Exception as why:  # of a container that is damaged: of any kind, as zipfile, tarfile and what they call raise
         own = Found("", form, Class.DAMAGED, source.size, note=packed.why_of(why))
     if own is None or own.what is Class.EMPTY:
-        own = Found("", own.form if own else form, Class.CONTAINER if tally else Class.EMPTY, source.size, note=own.note if own else "")
+        own = Found("", own.form if own else form, Class.CONTAINER if holds_messages else Class.EMPTY, source.size, note=own.note if own else "")
     yield own
 
 
-def _in_signed_content(message: Found, source: Source, depth: int, mails: int) -> Iterator[Found]:
+# ---- files in which nothing else lies
+
+
+def found_alone(source: Source) -> Optional[Found]:
+    """Returns what a file in memory is if nothing else lies in it, as most are: a message, a text or nothing. If that is not clear at once,
+    returns None."""
+    if not source.is_in_memory:
+        return None
+    try:
+        return _alone_by_beginning(source)
+    except (Ended, MemoryError):
+        raise
+    except Exception:  # which is said where it is looked into
+        return None
+
+
+def _alone_by_beginning(source: Source) -> Optional[Found]:
+    head = source.head
+    if _may_be_container(source) or pdf.BEGIN in head[: pdf.BEGINS_WITHIN] or head.startswith(_UTF_16):
+        return None
+    if is_text(head):
+        return None if head.startswith(_FROM) or mail.is_mail(head) or mail.is_mail_further(source) else _text_alone(source)
+    if mail.is_mail(head):
+        return None
+    place = _of_octets(source)
+    return _message_alone(place, source) if place.what is Class.MESSAGE else place
+
+
+def _text_alone(source: Source) -> Optional[Found]:
+    octets = source.octets()
+    if armour.in_base64(source) is not None:
+        return None
+    if (known := _known_text(octets)) is not None:
+        return known
+    return None if _BEGIN in octets or _is_due(source) else _plain_text(octets)
+
+
+def _message_alone(place: Found, source: Source) -> Optional[Found]:
+    """Returns a message after its content was looked into; None if something may lie there."""
+    message = _converted(place)
+    content = message.facts.content if message is not None else None
+    return place.opened(message) if not content or _is_nothing(_content_source(source, place, content)) else None
+
+
+def _is_nothing(content: Source) -> bool:
+    """Whether nothing is to be said of the content of a message, as is clear at once."""
+    if content.head.startswith(_ELEMENT) and not is_text(content.head):  # perhaps a message, with another one in it
+        return False
+    found = found_alone(content)
+    return found is not None and found.what in _NOTHING
+
+
+def _content_source(source: Source, place: Found, content: memoryview) -> Source:
+    return in_memory((armour.wanted_by(source.name) or "") if place.where == "" else "", content.tobytes(), source.budget)
+
+
+# ---- others
+
+
+def _in_signed_content(place: Found, message: Converted, source: Source, depth: int, mails: int) -> Iterator[Found]:
     """Gives what is in the content that a message holds itself, if that is something."""
-    octets = _content_of(message)
-    if octets is None:
+    octets = message.facts.content
+    if not octets:
         return
-    source.budget.take(len(octets))
-    inner = in_memory((armour.wanted_by(source.name) or "") if message.where == "" else "", octets, source.budget)
+    inner = _content_source(source, place, octets)
     if depth < DEEPEST:
         found = found_in(inner, depth + 1, mails + 1)
-    elif _look_for(inner, depth, mails)[0] not in ("text", "file") or _content_of(message._replace(octets=octets)) is not None:
+    elif _look_for(inner, depth, mails)[0] not in ("text", "file") or _holds_data(place._replace(octets=inner.octets())):
         found = iter((Found("", "signed content", Class.TOO_LARGE, len(octets), note=f"signed contents are nested more than {DEEPEST} deep"),))
     else:
         return
-    for place in found:
-        if place.what in (Class.TEXT, Class.NO_CANDIDATE, Class.EMPTY) or _is_something_else(place):
+    for it in found:
+        if it.what in _NOTHING or _is_something_else(it):
             continue
-        place = (place.with_content(None) if place.wants else place).within(_SIGNED_CONTENT)
-        yield place._replace(where=f"{message.where}!{place.where}") if message.where else place
+        it = (it.with_content(None) if it.wants else it).within(_SIGNED_CONTENT)
+        yield it._replace(where=f"{place.where}!{it.where}") if place.where else it
 
 
-def _content_of(message: Found) -> Optional[bytes]:
-    """Returns the data that a message signs and holds; None if there are none."""
-    octets = message.octets or b""
-    if not any(it in octets for it in _DATA):  # which costs much less than to read it
+def _converted(place: Found) -> Optional[Converted]:
+    """Returns what may be a message with data in it, converted; None if it is none."""
+    octets = place.octets or b""
+    at = octets.find(_DATA)
+    while at >= 0 and octets[at + len(_DATA) : at + len(_DATA) + 1] not in _BEGINNINGS_OF_CONTENT:
+        at = octets.find(_DATA, at + 1)
+    if at < 0:  # which costs much less to see than to convert it
         return None
     try:
-        read = cms_canon.read(octets)
+        return converted(octets)
     except cms_canon.Refused:
         return None
-    return bytes(read.content) if read.content else None
+
+
+def _holds_data(place: Found) -> bool:
+    """Whether what lies there is a message that signs and holds data."""
+    message = _converted(place)
+    return message is not None and bool(message.facts.content)
 
 
 def _is_something_else(found: Found) -> bool:
@@ -96,6 +176,25 @@ def _is_something_else(found: Found) -> bool:
 
 def _look_for(source: Source, depth: int, mails: int) -> Look:
     """Returns what kind of file it seems to be, and what looks into it."""
+    head = source.head
+    if (look := _look_for_container(source, depth, mails) if _may_be_container(source) else None) is not None:
+        return look
+    if is_text(head) or mail.is_mail(head):
+        return _look_for_text(source, depth, mails)
+    if head.startswith(_UTF_16):
+        return "text", partial(_in_utf_16, source)
+    if head.startswith(_ELEMENT):
+        return "file", partial(_in_octets, source)
+    return _or_pdf(source, "file", partial(_in_octets, source), depth, mails)
+
+
+def _may_be_container(source: Source) -> bool:
+    """Whether the first octets of a file or its name are those of a container. Most files are none, and to see that here costs least."""
+    return source.head[:2] in _BEGINNINGS or source.name.lower().endswith(_NAMES) or packed.is_tar(source)
+
+
+def _look_for_container(source: Source, depth: int, mails: int) -> Optional[Look]:
+    """Returns the same of a container, or an archive that is not looked into; None if it is neither."""
     inner = partial(found_in, depth=depth + 1, mails=mails)
     packing = packed.packing_of(source)
     if source.head.startswith(pdf.BEGIN):
@@ -107,15 +206,8 @@ def _look_for(source: Source, depth: int, mails: int) -> Look:
         return packing.name, partial(_packed, source, depth, into)
     if packed.is_tar(source):
         return "tar", partial(_packed, source, depth, packed.Tar(source, None, inner).found)
-    if (archive := marks.by_beginning(source)) is not None:
-        return archive.form, partial(_alone, archive)
-    if source.head and not source.head.translate(None, TEXT) or mail.is_mail(source.head):
-        return _look_for_text(source, depth, mails)
-    if source.head.startswith(_UTF_16):
-        return "text", partial(_in_utf_16, source)
-    if source.head.startswith(_ELEMENT):
-        return "file", partial(_in_octets, source)
-    return _or_pdf(source, "file", partial(_in_octets, source), depth, mails)
+    archive = marks.by_beginning(source)
+    return None if archive is None else (archive.form, partial(_alone, archive))
 
 
 def _alone(found: Found) -> Iterator[Found]:
@@ -173,7 +265,7 @@ def _in_mail(source: Source, mails: int, into: Into) -> Iterator[Found]:
 def _look_for_text(source: Source, depth: int, mails: int) -> Look:
     """Returns the same of a file that begins as a text."""
     search = partial(found_in, depth=depth, mails=mails + 1)
-    if source.head.startswith(b"From "):
+    if source.head.startswith(_FROM):
         return "mbox", partial(_in_mail, source, mails, partial(mail.in_mbox, source, search))
     if mail.is_mail(source.head) or mail.is_mail_further(source):
         return "mail", partial(_in_mail, source, mails, partial(mail.in_mail, source, search))
@@ -186,13 +278,22 @@ def _in_text(source: Source) -> Iterator[Found]:
         yield base64
         return
     octets = source.octets()
-    if (known := named.in_xml(octets) or marks.in_text(octets)) is not None:
+    if (known := _known_text(octets)) is not None:
         yield known
-    elif _BEGIN in octets:
-        yield from _as_named(source, octets, armour.in_pem(octets, source))
-    else:
-        known = marks.mail_in_text(octets) or Found("", "text", Class.TEXT, len(octets))
-        yield from _as_named(source, octets, iter((known,)))
+        return
+    found = armour.in_pem(octets, source) if _BEGIN in octets else iter((_plain_text(octets),))
+    for place in found:
+        is_nothing = place.where == "" and place.what in (Class.TEXT, Class.NO_CANDIDATE)
+        yield _message(source, octets) if is_nothing and _is_due(source) else place
+
+
+def _known_text(octets: bytes) -> Optional[Found]:
+    """Returns what a text is that is signed otherwise, or in which an archive lies; None if it is neither."""
+    return named.in_xml(octets) or marks.in_text(octets)
+
+
+def _plain_text(octets: bytes) -> Found:
+    return marks.mail_in_text(octets) or Found("", "text", Class.TEXT, len(octets))
 
 
 def _in_utf_16(source: Source) -> Iterator[Found]:
@@ -206,11 +307,9 @@ def _in_utf_16(source: Source) -> Iterator[Found]:
     yield from _in_text(in_memory(source.name, text, source.budget))
 
 
-def _as_named(source: Source, octets: bytes, found: Iterator[Found]) -> Iterator[Found]:
-    """Gives what is found, but a file with no message where one is due as such, so that its refusal is said."""
-    for place in found:
-        is_due = place.where == "" and place.what in (Class.TEXT, Class.NO_CANDIDATE) and source.name.lower().endswith(SIGNATURE_ENDINGS)
-        yield _message(source, octets) if is_due else place
+def _is_due(source: Source) -> bool:
+    """Whether a file is so named that it is taken for a message if it is nothing else, so that its refusal is said."""
+    return source.name.lower().endswith(SIGNATURE_ENDINGS)
 
 
 def _message(source: Source, octets: bytes) -> Found:
@@ -218,12 +317,14 @@ def _message(source: Source, octets: bytes) -> Found:
 
 
 def _in_octets(source: Source) -> Iterator[Found]:
-    """Gives what a file that is no text is by itself."""
+    yield _of_octets(source)
+
+
+def _of_octets(source: Source) -> Found:
+    """Returns what a file that is no text is by itself."""
     if (known := named.in_asn_1(source)) is not None:
-        yield known
-        return
-    if source.head.startswith(_ELEMENT) or source.name.lower().endswith(SIGNATURE_ENDINGS):
-        yield _message(source, source.octets())
-        return
+        return known
+    if source.head.startswith(_ELEMENT) or _is_due(source):
+        return _message(source, source.octets())
     known = named.authenticode(source) or named.openpgp(source) or marks.in_program(source) or marks.elsewhere(source)
-    yield known or Found("", "file", Class.NO_CANDIDATE, source.size, note="" if source.head else "empty")
+    return known or Found("", "file", Class.NO_CANDIDATE, source.size, note="" if source.head else "empty")

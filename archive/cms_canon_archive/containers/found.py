@@ -8,6 +8,7 @@ from enum import Enum
 from typing import Any, Dict, Iterable, Iterator, NamedTuple, Optional, Set, Tuple, Union
 
 import cms_canon
+from cms_canon import _facts
 
 Octets = Union[bytes, memoryview]
 
@@ -46,6 +47,7 @@ class State(str, Enum):
     NO_SIGNATURE = "no signature"
 
 
+_KEPT = 1 << 16  # octets of a message that is kept as it was converted until it is judged
 GOOD = (State.FITS, State.EARLIER, State.PARTLY)
 
 
@@ -97,6 +99,20 @@ class Content:
     """Whether the message has to hold these octets itself."""
 
 
+class Converted(NamedTuple):
+    """A message that was converted."""
+
+    der: bytes
+    facts: _facts.Facts
+    """What it says."""
+
+
+def converted(octets: bytes) -> Converted:
+    """Converts a message, and reads what it says. Raises `Refused` if it is none."""
+    der = cms_canon.convert(octets)
+    return Converted(der, _facts.facts_of(der))
+
+
 class Found(NamedTuple):
     """What lies at one place in a file. If it is of the class of messages, it is not judged yet, and may be none."""
 
@@ -118,6 +134,8 @@ class Found(NamedTuple):
     """Why it is so, or what else is to be said."""
     is_opened: bool = False
     """Whether the content that it holds itself has been looked into."""
+    converted: Optional[Converted] = None
+    """The message, if it was converted for that, and is so short that it was kept."""
 
     def within(self, name: str) -> Found:
         r"""Returns the same as it is called from outside the member of this name, in which `!` is written as `\x21`."""
@@ -128,9 +146,16 @@ class Found(NamedTuple):
         """Returns the same with more that is to be said of it."""
         return self._replace(note="; ".join(filter(None, (self.note, *notes))))
 
+    def opened(self, message: Optional[Converted]) -> Found:
+        """Returns the same after the content that the message holds was looked into, with the message if it is short."""
+        kept = message if message is not None and len(message.der) <= _KEPT else None
+        return Found(*self[:-2], True, kept)
+
     def with_content(self, content: Optional[Content]) -> Found:
         """Returns the same with the content that it covers, of which it needs none any more."""
-        return self._replace(content=content, is_detached=content is not None, wants=None)
+        if content is None:
+            return Found(*self[:5], None, False, None, *self[8:])
+        return self._replace(content=content, is_detached=True, wants=None)
 
 
 def numbered(found: Iterable[Found]) -> Iterator[Found]:
@@ -138,6 +163,9 @@ def numbered(found: Iterable[Found]) -> Iterator[Found]:
     given: Set[int] = set()
     again: Dict[int, int] = {}
     for place in found:
+        if place.where == "":  # the file itself, which comes once
+            yield place
+            continue
         key = _key(place.where)
         if key in given:
             number = again.get(key, 1) + 1
@@ -152,11 +180,3 @@ def numbered(found: Iterable[Found]) -> Iterator[Found]:
 
 def _key(where: str) -> int:
     return int.from_bytes(hashlib.blake2b(where.encode("utf-8", "surrogatepass"), digest_size=8).digest(), "big")
-
-
-def counted(found: Iterable[Found], tally: Dict[str, int]) -> Iterator[Found]:
-    """Gives what is found, and counts what may be a message."""
-    for place in found:
-        if place.what in (Class.MESSAGE, Class.CONTAINER):
-            tally["messages"] = tally.get("messages", 0) + 1
-        yield place

@@ -112,8 +112,7 @@ def _begun(octets: bytes) -> bytes:
 
 def is_mail(head: bytes) -> bool:
     """Whether a file that begins so is a mail: the first line is a header, and one of them is one that mails have."""
-    head = _begun(head)
-    if not _FIRST_HEADER.match(head):
+    if b":" not in head or not _FIRST_HEADER.match(head := _begun(head)):
         return False
     end = _END_OF_HEADERS.search(head)
     headers = head[: end.start()] if end else head
@@ -122,6 +121,8 @@ def is_mail(head: bytes) -> bool:
 
 def is_mail_further(source: Source) -> bool:
     """Whether a file that begins with headers alone is a mail by one of the headers that follow."""
+    if b":" not in source.head:
+        return False
     head = _begun(source.head)
     is_headers = _FIRST_HEADER.match(head) and not _END_OF_HEADERS.search(head) and not _NO_HEADER.search(head, 0, head.rfind(b"\n") + 1)
     return bool(is_headers) and is_mail(source.octets()[:_MOST_HEADERS])

@@ -24,13 +24,14 @@ _INSIDE = {  # a program that extracts itself
     "RAR": re.compile(rb"Rar!\x1a\x07\x01?\0"),
     "cab": re.compile(rb"(?s)MSCF\0{4}.{16}\x03\x01"),
 }
+_ZIP_END = b"PK\x05\x06"
 _END_OF_ZIP = re.compile(rb"(?s)PK\x05\x06.{8}(....)(....)(..)")
 _LONGEST_END = 22 + 0xFFFF  # octets of the end of a zip, with its comment
 _PACKED_IN_SCRIPT = re.compile(rb"\n(?:\x1f\x8b\x08|BZh[1-9]1AY&SY|\xfd7zXZ\0|\x28\xb5\x2f\xfd|\x5d\0\0[\0-\xff]{2}\xff{8})")
 _BEGIN_OF_JSON = 256  # octets in which blanks may lie before it
 _HEADS = 1 << 16  # octets of a text in which the headers of a mail are looked for
 _MAIL = re.compile(rb"^content-type[ \t]*:\s*(?:multipart/signed|application/(?:x-)?pkcs7-(?:mime|signature))", re.M)
-_IN_MAIL = (b"multipart/signed", b"pkcs7-")
+_SIGNED_MAIL, _MAIL_WITH_MESSAGE = b"multipart/signed", b"pkcs7-"
 _EMLX = re.compile(rb"[0-9]{1,10}[ \t]*\r?\n[!-9;-~]+[ \t]*:")
 _COMPACT_JWS = re.compile(rb"eyJ[\w-]+\.[\w-]*\.[\w-]+\s*\Z", re.A)
 
@@ -58,6 +59,7 @@ _MARKS = (
     *(_mark("SquashFS", b"hsqs"), _mark("CHM", b"ITSF"), _mark("VHDX", b"vhdxfile"), _mark("VMDK", b"KDMV"), _mark("QCOW", b"QFI\xfb")),
 )
 _IN_HEAD = (("LHA", 2, b"-lh"), ("ACE", 7, b"**ACE**"))
+BEGINNINGS = (_OLE, *(it.begin for it in _MARKS))
 _BY_FIRST = {it.begin[0]: [other for other in _MARKS if other.begin[0] == it.begin[0]] for it in _MARKS}
 
 
@@ -102,21 +104,26 @@ def _in_script(octets: bytes) -> Optional[Found]:
 def _ends_of_zip(octets: bytes, size: int) -> Iterator[Tuple[int, int]]:
     """Gives where the end of a zip begins, and where its comment ends, in the last octets of a file of this size."""
     begin = max(0, len(octets) - _LONGEST_END)
-    if octets.find(b"PK\5\6", begin) < 0:  # which costs much less than to search by a pattern
-        return
     for end in _END_OF_ZIP.finditer(octets, begin):
         length, at, comment = (int.from_bytes(number, "little") for number in end.groups())
         if length and length + at <= size:
             yield end.start(), end.end() + comment
 
 
+def _has_mark_of_end(octets: bytes) -> bool:
+    """Whether the mark of the end of a zip lies where that may be, which costs much less than to search by a pattern."""
+    return octets.find(_ZIP_END, max(0, len(octets) - _LONGEST_END)) >= 0
+
+
 def ends_as_zip(octets: bytes, size: Optional[int] = None) -> bool:
     """Whether the end of a zip lies at the end of a file, of which these are the last octets, or all if it has no other size."""
-    return any(_ends_of_zip(octets, len(octets) if size is None else size))
+    return _has_mark_of_end(octets) and any(_ends_of_zip(octets, len(octets) if size is None else size))
 
 
 def pdf_ends_as_zip(octets: bytes) -> bool:
     """Whether the end of a zip lies after a PDF, or has the end of the PDF in its comment: that of an attachment does not."""
+    if not _has_mark_of_end(octets):
+        return False
     ends = list(_ends_of_zip(octets, len(octets)))
     last = octets.rfind(b"startxref") if ends else 0
     return any(begin > last or end == len(octets) for begin, end in ends)
@@ -156,5 +163,5 @@ def mail_in_text(octets: bytes) -> Optional[Found]:
     if _EMLX.match(octets):
         return _named("emlx", len(octets))
     begin = octets[:_HEADS].lower()
-    is_mail = any(it in begin for it in _IN_MAIL) and _MAIL.search(begin)
+    is_mail = (_SIGNED_MAIL in begin or _MAIL_WITH_MESSAGE in begin) and _MAIL.search(begin)
     return _named("mail after something else", len(octets)) if is_mail else None

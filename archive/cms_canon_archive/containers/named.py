@@ -15,7 +15,7 @@ _TIME_STAMPED_DATA = re.compile(rb"(?s)\x30" + _LENGTH + rb"\x06\x0b\x2a\x86\x48
 _EVIDENCE_RECORD = re.compile(rb"(?s)\x30" + _LENGTH + rb"\x02\x01\x01\x30" + _LENGTH + rb"(?=\x30" + _LENGTH + rb"\x06)")
 _XML_EVIDENCE_RECORD = b"urn:ietf:params:xml:ns:ers"
 _XADES = b"http://uri.etsi.org/01903/"
-_XML_SIGNATURE = (b"http://www.w3.org/2000/09/xmldsig#", b"SignatureValue")
+_XML_SIGNATURE, _SIGNATURE_VALUE = b"http://www.w3.org/2000/09/xmldsig#", b"SignatureValue"
 _SECURITY = 4  # the number of the data directory of a PE that says where its signatures are
 _PE = b"PE\0\0"
 
@@ -50,7 +50,7 @@ def openpgp(source: Source) -> Optional[Found]:
 
 def in_xml(octets: bytes) -> Optional[Found]:
     """Returns what a text in XML is that has a signature of its own (XMLDSig, XAdES) or is an evidence record (RFC 6283)."""
-    if all(it in octets for it in _XML_SIGNATURE):
+    if _XML_SIGNATURE in octets and _SIGNATURE_VALUE in octets:
         return Found("", "XAdES" if _XADES in octets else "XML signature", Class.OTHER, len(octets))
     return Found("", "evidence record", Class.OTHER, len(octets), note="in XML") if _XML_EVIDENCE_RECORD in octets else None
 

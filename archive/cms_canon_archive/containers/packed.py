@@ -142,13 +142,14 @@ PACKINGS = (
 
 
 ENDINGS = tuple(ending for packing in PACKINGS for ending in packing.endings)
-_MAGICS = tuple(packing.magic for packing in PACKINGS)
+MAGICS = tuple(packing.magic for packing in PACKINGS)
+TAR_ENDING = ".tar"
 
 
 def packing_of(source: Source) -> Optional[Packing]:
     """Returns how a file is packed; None if it is not."""
     name = source.name.lower()
-    if not source.head.startswith(_MAGICS) and not name.endswith(ENDINGS):
+    if not source.head.startswith(MAGICS) and not name.endswith(ENDINGS):
         return None
     return next((it for it in PACKINGS if source.head.startswith(it.magic) or name.endswith(tuple(it.endings))), None)
 
@@ -240,13 +241,14 @@ def in_packed(source: Source, packing: Packing, search: Search, in_a_tar: Search
 
 def is_tar(source: Source) -> bool:
     """Whether a file begins as a tar, or is named so."""
-    return source.head[257:262] == b"ustar" or source.name.lower().endswith(".tar") or _is_old_tar(source.head)
+    head = source.head
+    return head[257:262] == b"ustar" or source.name.lower().endswith(TAR_ENDING) or len(head) >= _BLOCK and _is_old_tar(head)
 
 
 def _is_old_tar(head: bytes) -> bool:
     """Whether a header without a mark begins a file: it has its own sum."""
     said = _SUM_OF_A_HEADER.match(head, 148)
-    return said is not None and len(head) >= _BLOCK and sum(head[:148]) + 8 * 0x20 + sum(head[156:_BLOCK]) == int(said[1], 8)
+    return said is not None and sum(head[:148]) + 8 * 0x20 + sum(head[156:_BLOCK]) == int(said[1], 8)
 
 
 def _sum_of(octets: bytes) -> int:

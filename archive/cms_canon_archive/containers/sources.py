@@ -8,7 +8,7 @@ from __future__ import annotations
 
 import io
 from contextlib import contextmanager
-from typing import Any, BinaryIO, Iterator, Optional, Protocol, Tuple, cast
+from typing import Any, BinaryIO, Callable, Iterator, Optional, Protocol, Tuple, cast
 
 import cms_canon
 
@@ -30,6 +30,14 @@ MOST_HELD = 32 << 20  # octets of mails inside one another that are kept at once
 DEEPEST = 4  # packed files inside one another
 DEEPEST_MAIL = 20  # mails inside one another
 TEXT = bytes({*range(0x20, 0x7F), *range(0x80, 0x100), *b"\t\n\r\f\b\x1b"})  # octets that a text may have
+
+
+_FIRST = 64  # octets among which most files that are no text have one that no text has
+
+
+def is_text(head: bytes) -> bool:
+    """Whether a file that begins so may be a text."""
+    return bool(head) and not head[:_FIRST].translate(None, TEXT) and not head.translate(None, TEXT)
 
 
 class Ended(Exception):
@@ -144,7 +152,7 @@ class Source:
         self.budget = budget
         self._file = cast(BinaryIO, file)
         self._is_seekable = is_seekable
-        self.is_in_memory = isinstance(file, io.BytesIO)
+        self.is_in_memory = False
         self.head = b""
         while len(self.head) < HEAD and (piece := file.read(HEAD - len(self.head))):
             budget.take(len(piece))
@@ -232,6 +240,33 @@ class Source:
         return Source(name, file, size, self.budget)
 
 
-def in_memory(name: str, octets: bytes, budget: Budget) -> Source:
-    """Returns octets as a source."""
-    return Source(name, io.BytesIO(octets), len(octets), budget, is_seekable=True)
+class _Whole(Source):
+    """Octets that are all in memory. What reads them as a file gets one of its own."""
+
+    def __init__(self, name: str, octets: bytes, budget: Budget, opened: Callable[[bytes], BinaryIO]) -> None:
+        budget.take(len(octets))
+        self.name = name
+        self.size = len(octets)
+        self.budget = budget
+        self.is_in_memory = True
+        self.head = octets[:HEAD]
+        self._whole = self._octets = octets
+        self._opened = opened
+
+    def octets(self) -> bytes:
+        return self._whole
+
+    def begun(self) -> BinaryIO:
+        return self._opened(self._whole)
+
+    def forward(self) -> BinaryIO:
+        return self.begun()
+
+    @contextmanager
+    def aside(self) -> Iterator[None]:
+        yield
+
+
+def in_memory(name: str, octets: bytes, budget: Budget, opened: Callable[[bytes], BinaryIO] = io.BytesIO) -> Source:
+    """Returns octets as a source. `opened` makes a file of them for what reads one."""
+    return _Whole(name, octets, budget, opened)

@@ -18,7 +18,7 @@ from cms_canon_archive import folders, sessions, versions, working
 from cms_canon_archive.opening import url_of
 
 AFTER = 5  # files that are read before the fault
-_read, _stored = folders.rows_of_entry, sessions.store
+_read, _stored = folders.reads_of, sessions.store
 _begun, _put = folders.Reader.begin, sessions.Session.put
 
 
@@ -38,7 +38,7 @@ def _reading(act):
     """Makes a fault of something that happens while a file is read."""
     files = itertools.count(1)
 
-    @_in_place_of(folders, "rows_of_entry")
+    @_in_place_of(folders, "reads_of")
     def read(entry, verifies):
         if next(files) == AFTER:
             act()
@@ -93,21 +93,22 @@ def vanishing(self, outcome):
     return _begun(self, outcome)
 
 
-@_in_place_of(folders, "rows_of_entry")
+@_in_place_of(folders, "reads_of")
 def growing(entry, verifies):
     """A tar grows while it is read."""
-    for number, row in enumerate(_read(entry, verifies)):
+    for number, read in enumerate(_read(entry, verifies)):
         if number == 0 and entry.path.endswith("growing.tar"):
             with tarfile.open(entry.path, "a") as tar:
                 tar.addfile(tarfile.TarInfo("added.txt"))
-        yield row
+        yield read
 
 
-@_in_place_of(folders, "rows_of_entry")
+@_in_place_of(folders, "reads_of")
 def a_row_that_is_refused(entry, verifies):
     """Whatever it does, it sends a row of one file that no store takes."""
-    for row in _read(entry, verifies):
-        yield {**row, "form": "a\x1bb"} if entry.path.endswith("/03/3.p7s") else row
+    for read in _read(entry, verifies):
+        odd = read._replace(place=read.place._replace(form="a\x1bb"))
+        yield odd if entry.path.endswith("/03/3.p7s") else read
 
 
 unread = _in_place_of(folders.Reader, "begin")(lambda self, outcome: [])  # it says that it did its parts, and reads nothing
@@ -158,7 +159,7 @@ def wrong_digests(own):
     """It says that the first message of each part is another one."""
     at = sessions.PLACES.columns.keys().index("digest")
     first = next((row for row in own if row[at] is not None), None)
-    return [(*row[:at], "0" * 64, *row[at + 1 :]) if row is first else row for row in own]
+    return [(*row[:at], bytes(32), *row[at + 1 :]) if row is first else row for row in own]
 
 
 def _part(path, top, name="", whole=None):

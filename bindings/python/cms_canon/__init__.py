@@ -81,6 +81,7 @@ _TRUNCATED = 1  # the reason of E1
 _LISTING = 8192  # octets of room for a first call
 _OCTETS_PER_FINDING, _OTHER_FINDINGS = 3, 64  # a signer of 19 octets may have six; the others are for the message
 
+_NO_DOCUMENTS = (*_calls.optional_of(None), *_calls.optional_of(None))
 _BAD, _UNKNOWN = 17, 18  # the findings that are the verdicts of a verifier
 _FINDING = struct.Struct("=QII")  # signer, code, and whether there is a signer
 
@@ -350,6 +351,8 @@ def check(
     True, False and None, such as 1, a text or a coroutine, or if a piece is no octets. What the verifier or a file raises passes through.
     """
     octets, most = _calls.octets_of(data), _calls.limit_of(limit)
+    if content is None and stamped is None and verifier is None:
+        return _found(_calls.library.cms_canon_check, octets, *_NO_DOCUMENTS, most)
     are_short = is_in_memory(content, "content"), is_in_memory(stamped, "what was stamped")
     if content is stamped and not all(are_short):
         raise ValueError("content and what was stamped are not the same file or pieces")

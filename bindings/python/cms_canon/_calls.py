@@ -11,7 +11,7 @@ import ctypes
 import mmap
 import operator
 from pathlib import Path
-from typing import Any, Optional, Tuple, Union
+from typing import Any, List, Optional, Tuple, Union
 
 from ._prototypes import PROTOTYPES
 
@@ -21,7 +21,7 @@ LIMIT = 256 * 1024 * 1024
 """How many octets a message and its DER may have if no other limit is given: 256 MiB, the limit of the command."""
 
 MAX_NUMBER = (1 << 64) - 1  # no message has so many signers
-DONE, DIFFERENT, REFUSED, ROOM_TOO_SMALL = 0, 1, 3, 6
+DONE, DIFFERENT, REFUSED, OUT_OF_MEMORY, ROOM_TOO_SMALL = 0, 1, 3, 5, 6
 NO_SIGNED_DATA, NO_CONTENT = 101, 103  # 101 is the first of the reasons that are none of E1 to E19
 
 _MAX_LIMIT = 1 << 40
@@ -147,8 +147,44 @@ def type_name(value: object) -> str:
     return kind.__qualname__ if kind.__module__ == "builtins" else f"{kind.__module__}.{kind.__qualname__}"
 
 
+class _Room:
+    """What a short call writes to, made once and not at each call. One call has it at a time."""
+
+    def __init__(self) -> None:
+        octets = bytearray(_LARGE)
+        self.view = memoryview(octets)
+        self.address = ctypes.addressof(ctypes.c_char.from_buffer(octets))
+        self.outcome = Outcome()
+
+
+_rooms: List[_Room] = []  # those that no call has: as many as there were calls at once
+
+
 def called(function: Any, room: int, *words: object, size: int = 1) -> bytes:
     """Calls with room for so many items of this size in octets, and once more if they are too few."""
+    if room * size > _LARGE:
+        return _called_with(function, room, words, size)
+    try:
+        kept = _rooms.pop()
+    except IndexError:
+        kept = _Room()
+    outcome = kept.outcome
+    try:
+        outcome.status = OUT_OF_MEMORY  # until the call says otherwise
+        function(*words, kept.address, _LARGE // size, outcome)
+        status = outcome.status
+        if status == DONE:
+            return kept.view[: outcome.octets * size].tobytes()
+        if status != ROOM_TOO_SMALL:
+            raise error_of(outcome)
+        room = outcome.octets
+    finally:
+        _rooms.append(kept)
+    return _called_with(function, room, words, size)
+
+
+def _called_with(function: Any, room: int, words: Tuple[object, ...], size: int) -> bytes:
+    """Does the same with memory of its own, for what is long."""
     outcome = Outcome()
     while True:
         output = _memory_for(max(room, 1), size)

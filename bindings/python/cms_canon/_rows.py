@@ -69,10 +69,14 @@ class Rows:
         return tuple(octets[start : start + length] for start, length in places)
 
 
+def room_of_rows(octets: int) -> int:
+    """For how many rows of a message with so many octets there is to be room at first."""
+    return min(octets // 2 + 1, _MOST_ROWS)
+
+
 def rows_of(function: Any, octets: bytes, *words: int) -> Rows:
     """The rows by a call: once, and once more if there are more than there was room for, as a message seldom has many."""
-    room = min(len(octets) // 2 + 1, _MOST_ROWS)
-    return Rows(octets, called(function, room, octets, len(octets), *words, size=_ROW.size))
+    return Rows(octets, called(function, room_of_rows(len(octets)), octets, len(octets), *words, size=_ROW.size))
 
 
 class OctetString:

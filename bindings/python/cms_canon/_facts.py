@@ -1,0 +1,166 @@
+"""What a message says, all at once, for an index that asks the same of each of millions of messages.
+
+`read` makes an object of a field when it is asked for. Here one loop over the rows takes what an index stores, and makes no object but one
+for each signer. What is taken is that of the DER, in which each string is one piece and the members of a set are in the order of X.690.
+"""
+
+from __future__ import annotations
+
+import struct
+from typing import Dict, List, NamedTuple, Optional, Tuple
+
+from . import _kinds as kinds
+from ._calls import LIMIT, called, library
+from ._rows import dotted, room_of_rows
+
+_ROW = struct.Struct("=QQII")  # where its octets begin, how many there are, kind, level
+_KINDS = {kinds.SIGNED_DATA: "signed-data", kinds.REQUEST: "request", kinds.RESPONSE: "response"}
+_VALUE, _ATTRIBUTE, _CERTIFICATE = kinds.VALUE, kinds.ATTRIBUTE, kinds.CERTIFICATE
+_SIGNER, _COUNTERSIGNATURE, _UNSIGNED_ATTRIBUTES = kinds.SIGNER, kinds.COUNTERSIGNATURE, kinds.UNSIGNED_ATTRIBUTES
+_OF_SIGNER = frozenset(range(kinds.SIGNER_VERSION, kinds.UNSIGNED_ATTRIBUTES + 1))
+_OF_MESSAGE = frozenset((kinds.CONTENT_TYPE, kinds.CONTENT))
+_ATTRIBUTES_BELOW, _COUNTERSIGNATURES_BELOW = 2, 3  # levels below that of the signer
+
+
+class Signer:
+    """A signer, or a countersigner (RFC 5652, sections 5.3 and 11.4)."""
+
+    __slots__ = ("number", "fields", "signed", "unsigned", "countersigners")
+
+    def __init__(self, number: str) -> None:
+        self.number = number
+        """As `0`, and as `0.1` of its second countersignature; both from 0 in the order of the DER."""
+        self.fields: Dict[int, bytes] = {}
+        """The octets of each field by its kind, as a row of the library has them."""
+        self.signed: Dict[str, List[bytes]] = {}
+        """The values of its signed attributes by their types, each one element."""
+        self.unsigned: List[Tuple[str, List[bytes]]] = []
+        """The types and values of its unsigned attributes in their order. Countersignatures have none here."""
+        self.countersigners: List[Signer] = []
+
+    @property
+    def has_signed_attributes(self) -> bool:
+        return kinds.SIGNED_ATTRIBUTES in self.fields
+
+    @property
+    def digest_algorithm(self) -> bytes:
+        """The contents octets of its OBJECT IDENTIFIER."""
+        return self.fields[kinds.SIGNER_DIGEST_ALGORITHM]
+
+    @property
+    def signature_algorithm(self) -> bytes:
+        """The contents octets of its OBJECT IDENTIFIER."""
+        return self.fields[kinds.SIGNATURE_ALGORITHM]
+
+    @property
+    def signature(self) -> bytes:
+        return self.fields[kinds.SIGNATURE]
+
+    @property
+    def issuer(self) -> Optional[bytes]:
+        """The name of the issuer of its certificate, one element; None if it is named by a key identifier."""
+        return self.fields.get(kinds.ISSUER)
+
+    @property
+    def serial_number(self) -> Optional[int]:
+        """That of its certificate; None if it is named by a key identifier."""
+        contents = self.fields.get(kinds.SERIAL_NUMBER)
+        return None if contents is None else int.from_bytes(contents, "big", signed=True)
+
+    @property
+    def key_identifier(self) -> Optional[bytes]:
+        """That of its certificate; None if it is named by issuer and serial number."""
+        return self.fields.get(kinds.SUBJECT_KEY_IDENTIFIER)
+
+    def values_of(self, attribute: str) -> List[bytes]:
+        """Returns the list for the values of an attribute whose row came, which is signed as long as none came that is not."""
+        if _UNSIGNED_ATTRIBUTES not in self.fields:
+            return self.signed.setdefault(attribute, [])
+        values: List[bytes] = []
+        self.unsigned.append((attribute, values))
+        return values
+
+
+class Facts(NamedTuple):
+    """What a message says."""
+
+    kind: str
+    """`signed-data`, `request` or `response`."""
+    content_type: Optional[str]
+    """eContentType of the SignedData; None if there is no SignedData."""
+    content: Optional[memoryview]
+    """eContent, a part of the DER; None if it is detached, or if there is no SignedData."""
+    certificates: List[Tuple[int, int]]
+    """Where in the DER each certificate begins, and where it ends."""
+    signers: List[Signer]
+    """The signers, each right before its countersigners."""
+    signer_count: int
+    """How many signers there are without countersigners."""
+
+
+class TokenFacts(NamedTuple):
+    """What a TSTInfo says (RFC 3161, section 2.4.2)."""
+
+    time: str
+    """genTime as it stands there: `YYYYMMDDhhmmss`, perhaps a full stop and the digits of a fraction, and `Z`."""
+    policy: str
+    serial_number: int
+    hash_algorithm: bytes
+    """The contents octets of the OBJECT IDENTIFIER of the algorithm of the imprint."""
+
+
+def facts_of(der: bytes, limit: int = LIMIT) -> Facts:
+    """Returns what a message in DER says, as `convert` returns it. Raises `Refused` if it is no message, and `MemoryError` if memory runs out."""
+    fields: Dict[int, Tuple[int, int]] = {}
+    certificates: List[Tuple[int, int]] = []
+    signers: List[Signer] = []
+    latest: Dict[int, Signer] = {}  # the last signer at each level
+    count = 0
+    values: List[bytes] = []
+    rows = called(library.cms_canon_fields, room_of_rows(len(der)), der, len(der), limit, size=_ROW.size)
+    for start, length, kind, level in _ROW.iter_unpack(rows):
+        if kind in _OF_SIGNER:
+            latest[level - 1].fields[kind] = der[start : start + length]
+        elif kind == _VALUE:
+            values.append(der[start : start + length])
+        elif kind == _ATTRIBUTE:
+            values = latest[level - _ATTRIBUTES_BELOW].values_of(dotted(der[start : start + length]))
+        elif kind == _CERTIFICATE:
+            certificates.append((start, start + length))
+        elif kind in _OF_MESSAGE:
+            fields[kind] = start, start + length
+        elif kind == _SIGNER:
+            latest[level] = signer = Signer(str(count))
+            signers.append(signer)
+            count += 1
+        elif kind == _COUNTERSIGNATURE:
+            signers.append(_countersigner(latest, level))
+    begin, end = fields.get(kinds.CONTENT, (0, -1))
+    content_type = fields.get(kinds.CONTENT_TYPE)
+    return Facts(
+        _KINDS[_ROW.unpack_from(rows)[2]],
+        None if content_type is None else dotted(der[content_type[0] : content_type[1]]),
+        None if end < 0 else memoryview(der)[begin:end],
+        certificates,
+        signers,
+        count,
+    )
+
+
+def _countersigner(latest: Dict[int, Signer], level: int) -> Signer:
+    above = latest[level - _COUNTERSIGNATURES_BELOW]
+    latest[level] = signer = Signer(f"{above.number}.{len(above.countersigners)}")
+    above.countersigners.append(signer)
+    return signer
+
+
+def token_facts_of(tst_info: bytes) -> TokenFacts:
+    """Returns what a TSTInfo says. Raises `Refused` with the reason 105 if it is not one in DER, and `MemoryError` if memory runs out."""
+    rows = called(library.cms_canon_tst_info_fields, room_of_rows(len(tst_info)), tst_info, len(tst_info), size=_ROW.size)
+    fields = {kind: tst_info[start : start + length] for start, length, kind, _ in _ROW.iter_unpack(rows)}
+    return TokenFacts(
+        fields[kinds.GEN_TIME].decode("ascii"),
+        dotted(fields[kinds.TST_POLICY]),
+        int.from_bytes(fields[kinds.TST_SERIAL_NUMBER], "big", signed=True),
+        fields[kinds.HASH_ALGORITHM],
+    )
