@@ -14,7 +14,7 @@ import os
 from typing import AbstractSet, Dict, Iterable, List, NamedTuple, Optional, Set, Tuple
 
 from .containers.packed import why_of
-from .reading import Entry, Read, read_of, reads_of, unread
+from .reading import Entry, Read, read_of, reads_of, reads_together, unread
 from .sessions import Held, Known, New, Outcome
 from .spool import Spool
 from .tables import MOST_CHUNKS
@@ -22,6 +22,7 @@ from .texts import chunk_of, is_cut, name_of_text, text_of
 from .walking import entry_in, entry_of, is_reached
 
 FEW = 2000  # files of a folder that are one part; if there are four times as many, it is divided
+TOGETHER = 32  # files that are read together, if they are short
 LARGE = 4 << 20  # octets of a file that is a part of its own
 NOT_THERE = (errno.ENOENT, errno.ENOTDIR, errno.ELOOP)  # errors of a path that is not there
 KILLED = "a process that read it was killed, perhaps because memory ran out"
@@ -138,8 +139,14 @@ class Reader:
     def read(self, part: Held) -> Outcome:
         """Reads a part whole."""
         outcome = Outcome(part)
-        for file, entry in self.begin(outcome):
-            self.read_file(outcome, file, entry)
+        left = self.begin(outcome)
+        for begin in range(0, len(left), TOGETHER):
+            some = left[begin : begin + TOGETHER]
+            for (file, entry), read in zip(some, reads_together([entry for _, entry in some], part.verifies)):
+                if read is None:
+                    self.read_file(outcome, file, entry)
+                else:
+                    self.put(outcome, file, entry, (read,))
         return outcome
 
     def begin(self, outcome: Outcome) -> List[Tuple[str, Entry]]:

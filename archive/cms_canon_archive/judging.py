@@ -19,17 +19,18 @@ from cryptography.hazmat.primitives.asymmetric import dsa, ec, rsa
 
 import cms_canon
 from cms_canon import _facts, verifier
-from cms_canon._facts import token_facts_of
+from cms_canon._facts import facts_of, token_facts_of
 from cms_canon._names import NAMES
 from cms_canon._rows import dotted
 
-from .containers.found import GOOD, Class, Content, Found, State, converted, digest_of
+from .containers.found import GOOD, Class, Content, Found, State, digest_of
 from .containers.packed import why_of
 from .containers.sources import Ended
 from .texts import text_of
 
 MOST_LISTED = 1000  # signers, tokens or findings of one message that are recorded
 SHORT = 1 << 13  # octets of a certificate of which is kept what it says
+_FEW = 256  # octets of findings, 16 each, of which the text is kept
 _SHORT_OID = 32  # octets of an OBJECT IDENTIFIER of which the name is kept
 SMALL = 1 << 15  # octets of content that are handed to the library: digests of more are taken piece by piece
 _F6, _F7, _F8, _F9, _F11, _F13, _F14, _F17, _F18 = 6, 7, 8, 9, 11, 13, 14, 17, 18
@@ -189,8 +190,8 @@ def _read_certificate(octets: bytes) -> Optional[_Certificate]:
 _short_certificate = lru_cache(maxsize=1024)(_read_certificate)
 
 
-def _certificates_of(der: bytes, facts: _facts.Facts) -> List[_Certificate]:
-    found = (_certificate(der[begin:end]) for begin, end in facts.certificates[:MOST_LISTED])
+def _certificates_of(facts: _facts.Facts) -> List[_Certificate]:
+    found = [_certificate(facts.der[begin:end]) for begin, end in facts.certificates[:MOST_LISTED]]
     return [it for it in found if it is not None]
 
 
@@ -326,7 +327,7 @@ def _attribute_times(signer: _facts.Signer) -> Iterator[Time]:
 
 def _attribute_time(number: str, token: bytes, covered: Optional[bytes]) -> Time:
     try:
-        facts = converted(token).facts
+        facts = facts_of(token, checks=False)
         codes = {it.code for it in cms_canon.check(token, stamped=covered if covered is not None else b"")}
     except cms_canon.Refused:
         return Time(number, None, None, None, None, State.NO_DIGEST)
@@ -348,22 +349,42 @@ def _is_token(facts: _facts.Facts) -> bool:
     return facts.kind != "signed-data" or (facts.content is not None and _stamps(facts))
 
 
-def _findings(octets: bytes, facts: _facts.Facts, content: Optional[Content], is_stamped: bool) -> List[cms_canon.Finding]:
-    """Returns what is found with the content, but for verdicts on signatures. `is_stamped` says that it is of time-stamping.
+class _Findings(NamedTuple):
+    """What is found in a message with its document, but for verdicts on signatures."""
+
+    codes: FrozenSet[int]
+    text: str
+
+
+def _as_text(found: Iterable[cms_canon.Finding]) -> _Findings:
+    kept = [it for it in found if it.code not in (_F17, _F18)]
+    more = f" and {len(kept) - MOST_LISTED:,} more" if len(kept) > MOST_LISTED else ""
+    return _Findings(frozenset(it.code for it in kept), "; ".join(map(str, kept[:MOST_LISTED])) + more)
+
+
+def _of_items(items: bytes) -> _Findings:
+    return _as_text(cms_canon._findings_in(items))
+
+
+_of_few_items = lru_cache(maxsize=256)(_of_items)  # most messages of an archive break the same rules
+
+
+def _findings(octets: bytes, facts: _facts.Facts, content: Optional[Content], is_stamped: bool) -> _Findings:
+    """Returns what is found with the content. `is_stamped` says that it is of time-stamping.
 
     Raises `Ended` if the content has to be a TSTInfo and is too long to be read as one, or if `hashlib` does not know a digest algorithm.
     """
     if content is None or content.bound is State.UNREADABLE or (facts.content is not None and not is_stamped):
-        found = cms_canon.check(octets)
-    else:
-        if content.length > cms_canon.LIMIT and facts.content is None and _stamps(facts):
-            raise Ended(f"not read as a TSTInfo, which has at most {cms_canon.LIMIT:,} octets here")
-        given: cms_canon.Document = b"".join(content.pieces) if content.length <= SMALL else content.pieces
-        try:
-            found = cms_canon.check(octets, None if is_stamped else given, given if is_stamped else None)
-        except ValueError as why:  # also `Refused` by E2, of a TSTInfo that is longer than was said: the message itself was read before
-            raise Ended(f"not digested: {why}") from None
-    return [it for it in found if it.code not in (_F17, _F18)]
+        if facts.findings is None:
+            return _as_text(cms_canon.check(octets))
+        return _of_few_items(facts.findings) if len(facts.findings) <= _FEW else _of_items(facts.findings)
+    if content.length > cms_canon.LIMIT and facts.content is None and _stamps(facts):
+        raise Ended(f"not read as a TSTInfo, which has at most {cms_canon.LIMIT:,} octets here")
+    given: cms_canon.Document = b"".join(content.pieces) if content.length <= SMALL else content.pieces
+    try:
+        return _as_text(cms_canon.check(octets, None if is_stamped else given, given if is_stamped else None))
+    except ValueError as why:  # also `Refused` by E2, of a TSTInfo that is longer than was said: the message itself was read before
+        raise Ended(f"not digested: {why}") from None
 
 
 # ---- verdicts
@@ -499,46 +520,36 @@ def _names(names: Sequence[str]) -> str:
     return names[0] if len(names) == 1 else ", ".join(sorted(set(names)))
 
 
-_text_of_finding = lru_cache(maxsize=256)(str)
-
-
-def _text_of(findings: List[cms_canon.Finding]) -> str:
-    more = f" and {len(findings) - MOST_LISTED:,} more" if len(findings) > MOST_LISTED else ""
-    return "; ".join(map(_text_of_finding, findings[:MOST_LISTED])) + more
-
-
 def _times_of(facts: _facts.Facts, is_token: bool, state: State) -> List[Time]:
     """Returns the times of the message itself, if it is a token, and of the tokens in unsigned attributes."""
-    signers = facts.signers[:MOST_LISTED]
-    own = [_time("", facts, state)] if is_token and signers else []
-    inner = (time for it in signers if it.unsigned for time in _attribute_times(it))
-    return own + list(islice(inner, MOST_LISTED))
+    own = [_time("", facts, state)] if is_token and facts.signers else []
+    stamped = [it for it in facts.signers[:MOST_LISTED] if it.unsigned]
+    return own + list(islice((time for it in stamped for time in _attribute_times(it)), MOST_LISTED)) if stamped else own
 
 
 def _judged_message(found: Found, octets: bytes, verifies: bool) -> Facts:
-    der, facts = found.converted or converted(octets)
+    facts = found.facts or facts_of(octets, checks=found.content is None)
     is_token = _is_token(facts)
     kind = _kind_of(facts, is_token)
     findings = _findings(octets, facts, found.content, is_token)
-    codes = {it.code for it in findings}
     verified = _verified(octets, facts, found.content) if verifies and facts.signers else _NOT_VERIFIED
-    state, of_countersigners = _with_countersigned(_state_of(found, facts, kind, codes, verified), facts)
-    certificates = _certificates_of(der, facts) if facts.signers else []
+    state, of_countersigners = _with_countersigned(_state_of(found, facts, kind, findings.codes, verified), facts)
+    certificates = _certificates_of(facts) if facts.signers else []
     signers = [_signer(it, certificates) for it in facts.signers[:MOST_LISTED]]
     times = _times_of(facts, is_token, state)
     of_times = next((f"token {it.number}: {it.state.value}" for it in times if it.number and it.state is State.DIFFERS), "")
     return Facts(
         what=Class.MESSAGE,
-        digest=hashlib.sha256(der).digest(),
+        digest=hashlib.sha256(facts.der).digest(),
         kind=kind,
         signers=None if facts.content_type is None else facts.signer_count,
-        is_der=der == octets,
+        is_der=facts.der == octets,
         time=times[0].time if times and times[0].number == "" else None,
         content_type=None if facts.content_type is None else _oid_name(facts.content_type),
         content=_where(found, facts, is_token),
         state=state,
         note=_joined(_note_of(found), of_countersigners, of_times),
-        findings=_text_of(findings),
+        findings=findings.text,
         digests=_names([it.digest for it in signers]),
         signatures=_names([it.signature for it in signers]),
         verdict=verified.verdict,

@@ -314,12 +314,12 @@ def test_large_contents(archive, cases):
     names = ("doc.p7s", "stamped/doc.tst", "stamped/doc.tsr", "doc.tsq", "unsigned/doc.p7s")
     for name, content in itertools.product(names, (DOCUMENT, DOCUMENT[:-1], b"")):
         octets, pieces = cases[name].octets, archive.found.Content("doc", len(content), archive.found.Pieces(content[:9], content[9:]))
-        message = archive.cms_canon.read(octets)
-        is_stamped = archive.judging._is_token(message)
+        facts = archive.judging.facts_of(octets, checks=False)
+        is_stamped = archive.judging._is_token(facts)
         found = archive.cms_canon.check(octets, None if is_stamped else content, content if is_stamped else None)
         with mock.patch.object(archive.judging, "SMALL", 0):
-            came = archive.judging._findings(octets, message, pieces, is_stamped)
-        count_same(f"{name}, {len(content)} octets by pieces", came, [it for it in found if it.code not in (17, 18)])
+            came = archive.judging._findings(octets, facts, pieces, is_stamped)
+        count_same(f"{name}, {len(content)} octets by pieces", came.text, "; ".join(str(it) for it in found if it.code not in (17, 18)))
 
 
 def test_contents_beside(archive, make):

@@ -8,7 +8,7 @@ import os
 import stat
 from typing import Any, BinaryIO, Iterable, Iterator, Optional, Tuple
 
-from .finder import found_alone, found_inside
+from .finder import found_in
 from .found import Class, Content, Found, Octets, Pieces, State, numbered
 from .packed import why_of
 from .sources import PIECE, Budget, Ended, Source, TooMuch, in_memory
@@ -122,6 +122,15 @@ def _begun(path: str) -> Tuple[bytes, Optional[BinaryIO], int]:
     return b"", io.BufferedReader(_File(descriptor)), size
 
 
+def short(path: str) -> Optional[Source]:
+    """Returns a short file, read at once; None if it is longer. Raises `OSError` or `Unreadable` if it cannot be read."""
+    octets, file, size = _begun(path)
+    if file is not None:
+        file.close()
+        return None
+    return in_memory(path, octets, Budget(size), _Short)
+
+
 def found_in_path(path: str, absent: str = "") -> Iterator[Found]:
     """Gives what is found in a file, and last the file itself. Raises `OSError` or `Unreadable` if it cannot be read.
 
@@ -129,19 +138,15 @@ def found_in_path(path: str, absent: str = "") -> Iterator[Found]:
     """
     octets, file, size = _begun(path)
     budget = Budget(size)
-    if file is not None:
-        with file:
-            yield from _found_in(Source(path, file, size, budget, is_seekable=True), absent)
+    if file is None:
+        yield from _found_in(in_memory(path, octets, budget, _Short), absent)
         return
-    source = in_memory(path, octets, budget, _Short)
-    alone = found_alone(source)
-    if alone is None:
-        yield from _found_in(source, absent)
-    else:
-        yield _with_content(alone, absent)
+    with file:
+        yield from _found_in(Source(path, file, size, budget, is_seekable=True), absent)
 
 
-def _with_content(found: Found, absent: str) -> Found:
+def with_beside(found: Found, absent: str) -> Found:
+    """Returns the same with the file beside it as its content, if it wants one."""
     if not found.wants:
         return found
     return found.with_content(None if found.wants == absent else beside(found.wants))
@@ -150,7 +155,7 @@ def _with_content(found: Found, absent: str) -> Found:
 def _found_in(source: Source, absent: str) -> Iterator[Found]:
     size = source.size
     try:
-        for it in numbered(found_inside(source)):
-            yield _with_content(it, absent)
+        for it in numbered(found_in(source)):
+            yield with_beside(it, absent)
     except TooMuch as why:
         yield Found("", "file", Class.TOO_LARGE, size, note=str(why))

@@ -10,9 +10,10 @@ from functools import partial
 from typing import Callable, Iterator, Optional, Tuple
 
 import cms_canon
+from cms_canon._facts import Facts, facts_of
 
 from . import armour, mail, marks, named, packed, pdf, zips
-from .found import Class, Converted, Found, converted, is_message
+from .found import Class, Found, is_message
 from .packed import Packing
 from .sources import DEEPEST, DEEPEST_MAIL, Ended, Source, TooLarge, in_memory, is_text
 
@@ -27,6 +28,7 @@ _SIGNED_CONTENT = "signed content"
 _UTF_16 = (b"\xff\xfe", b"\xfe\xff")
 _BEGIN = b"-----BEGIN "
 _FROM = b"From "
+_KEPT = 1 << 16  # octets of a message of which is kept what it says until it is judged
 _NOTHING = (Class.TEXT, Class.NO_CANDIDATE, Class.EMPTY)  # what is not said of the content of a message
 _BEGINNINGS = {it[:2] for it in (pdf.BEGIN, *zips.MAGICS, *packed.MAGICS, *marks.BEGINNINGS)}
 _NAMES = (*zips.ENDINGS, *packed.ENDINGS, packed.TAR_ENDING)
@@ -38,10 +40,10 @@ def found_in(source: Source, depth: int = 0, mails: int = 0) -> Iterator[Found]:
     Raises `Ended` if no more of the file may or can be read. Whatever else is wrong in it is said in what is found.
     """
     alone = found_alone(source)
-    return found_inside(source, depth, mails) if alone is None else iter((alone,))
+    return _found_inside(source, depth, mails) if alone is None else iter((alone,))
 
 
-def found_inside(source: Source, depth: int = 0, mails: int = 0) -> Iterator[Found]:
+def _found_inside(source: Source, depth: int = 0, mails: int = 0) -> Iterator[Found]:
     """Gives the same of a source in which something else may lie."""
     holds_messages = False
     form, look = _look_for(source, depth, mails)
@@ -49,10 +51,10 @@ def found_inside(source: Source, depth: int = 0, mails: int = 0) -> Iterator[Fou
     try:
         for place in look():
             if place.what is Class.MESSAGE and not place.is_opened:
-                message = _converted(place)
-                if message is not None:
-                    yield from _in_signed_content(place, message, source, depth, mails)
-                place = place.opened(message)
+                facts = _facts_of_data(place)
+                if facts is not None:
+                    yield from _in_signed_content(place, facts, source, depth, mails)
+                place = place.opened(None if facts is None or facts.findings is None else facts)
             holds_messages = holds_messages or place.what in (Class.MESSAGE, Class.CONTAINER)
             if place.where == "":
                 own = place
@@ -75,28 +77,33 @@ def found_inside(source: Source, depth: int = 0, mails: int = 0) -> Iterator[Fou
 
 
 def found_alone(source: Source) -> Optional[Found]:
-    """Returns what a file in memory is if nothing else lies in it, as most are: a message, a text or nothing. If that is not clear at once,
-    returns None."""
+    """Returns what a file in memory is if nothing else lies in it, as in most: a message, a text or nothing. If that is not clear at once, returns
+    None."""
+    place = seen_alone(source)
+    if place is None or place.what is not Class.MESSAGE:
+        return place
+    return opened_alone(place, source, _facts_of_data(place))
+
+
+def seen_alone(source: Source) -> Optional[Found]:
+    """Returns the same before the content that a message holds is looked into."""
     if not source.is_in_memory:
         return None
     try:
-        return _alone_by_beginning(source)
+        return _by_beginning(source)
     except (Ended, MemoryError):
         raise
-    except Exception:  # which is said where it is looked into
+    except Exception:  # which is said where the file is looked into
         return None
 
 
-def _alone_by_beginning(source: Source) -> Optional[Found]:
+def _by_beginning(source: Source) -> Optional[Found]:
     head = source.head
     if _may_be_container(source) or pdf.BEGIN in head[: pdf.BEGINS_WITHIN] or head.startswith(_UTF_16):
         return None
     if is_text(head):
         return None if head.startswith(_FROM) or mail.is_mail(head) or mail.is_mail_further(source) else _text_alone(source)
-    if mail.is_mail(head):
-        return None
-    place = _of_octets(source)
-    return _message_alone(place, source) if place.what is Class.MESSAGE else place
+    return None if mail.is_mail(head) else _of_octets(source)
 
 
 def _text_alone(source: Source) -> Optional[Found]:
@@ -108,18 +115,19 @@ def _text_alone(source: Source) -> Optional[Found]:
     return None if _BEGIN in octets or _is_due(source) else _plain_text(octets)
 
 
-def _message_alone(place: Found, source: Source) -> Optional[Found]:
-    """Returns a message after its content was looked into; None if something may lie there."""
-    message = _converted(place)
-    content = message.facts.content if message is not None else None
-    return place.opened(message) if not content or _is_nothing(_content_source(source, place, content)) else None
+def opened_alone(place: Found, source: Source, facts: Optional[Facts]) -> Optional[Found]:
+    """Returns a message with what it says, after the content that it holds was looked into; None if something may lie there."""
+    content = None if facts is None else facts.content
+    if content and _may_hold_data(place) and not _is_nothing(_content_source(source, place, content)):
+        return None
+    return place.opened(facts)
 
 
 def _is_nothing(content: Source) -> bool:
     """Whether nothing is to be said of the content of a message, as is clear at once."""
     if content.head.startswith(_ELEMENT) and not is_text(content.head):  # perhaps a message, with another one in it
         return False
-    found = found_alone(content)
+    found = seen_alone(content)
     return found is not None and found.what in _NOTHING
 
 
@@ -130,9 +138,9 @@ def _content_source(source: Source, place: Found, content: memoryview) -> Source
 # ---- others
 
 
-def _in_signed_content(place: Found, message: Converted, source: Source, depth: int, mails: int) -> Iterator[Found]:
+def _in_signed_content(place: Found, facts: Facts, source: Source, depth: int, mails: int) -> Iterator[Found]:
     """Gives what is in the content that a message holds itself, if that is something."""
-    octets = message.facts.content
+    octets = facts.content
     if not octets:
         return
     inner = _content_source(source, place, octets)
@@ -149,24 +157,30 @@ def _in_signed_content(place: Found, message: Converted, source: Source, depth: 
         yield it._replace(where=f"{place.where}!{it.where}") if place.where else it
 
 
-def _converted(place: Found) -> Optional[Converted]:
-    """Returns what may be a message with data in it, converted; None if it is none."""
+def _may_hold_data(place: Found) -> bool:
+    """Whether what may be a message has octets as one that holds data, which costs much less to see than to read it."""
     octets = place.octets or b""
     at = octets.find(_DATA)
     while at >= 0 and octets[at + len(_DATA) : at + len(_DATA) + 1] not in _BEGINNINGS_OF_CONTENT:
         at = octets.find(_DATA, at + 1)
-    if at < 0:  # which costs much less to see than to convert it
+    return at >= 0
+
+
+def _facts_of_data(place: Found) -> Optional[Facts]:
+    """Returns what a message says that may hold data, and of a short one what is found in it; None if it is none."""
+    octets = place.octets
+    if octets is None or not _may_hold_data(place):
         return None
     try:
-        return converted(octets)
+        return facts_of(octets, checks=len(octets) <= _KEPT)
     except cms_canon.Refused:
         return None
 
 
 def _holds_data(place: Found) -> bool:
     """Whether what lies there is a message that signs and holds data."""
-    message = _converted(place)
-    return message is not None and bool(message.facts.content)
+    facts = _facts_of_data(place)
+    return facts is not None and bool(facts.content)
 
 
 def _is_something_else(found: Found) -> bool:

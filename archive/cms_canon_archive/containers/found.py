@@ -8,7 +8,7 @@ from enum import Enum
 from typing import Any, Dict, Iterable, Iterator, NamedTuple, Optional, Set, Tuple, Union
 
 import cms_canon
-from cms_canon import _facts
+from cms_canon._facts import Facts
 
 Octets = Union[bytes, memoryview]
 
@@ -47,7 +47,6 @@ class State(str, Enum):
     NO_SIGNATURE = "no signature"
 
 
-_KEPT = 1 << 16  # octets of a message that is kept as it was converted until it is judged
 GOOD = (State.FITS, State.EARLIER, State.PARTLY)
 
 
@@ -99,20 +98,6 @@ class Content:
     """Whether the message has to hold these octets itself."""
 
 
-class Converted(NamedTuple):
-    """A message that was converted."""
-
-    der: bytes
-    facts: _facts.Facts
-    """What it says."""
-
-
-def converted(octets: bytes) -> Converted:
-    """Converts a message, and reads what it says. Raises `Refused` if it is none."""
-    der = cms_canon.convert(octets)
-    return Converted(der, _facts.facts_of(der))
-
-
 class Found(NamedTuple):
     """What lies at one place in a file. If it is of the class of messages, it is not judged yet, and may be none."""
 
@@ -134,8 +119,8 @@ class Found(NamedTuple):
     """Why it is so, or what else is to be said."""
     is_opened: bool = False
     """Whether the content that it holds itself has been looked into."""
-    converted: Optional[Converted] = None
-    """The message, if it was converted for that, and is so short that it was kept."""
+    facts: Optional[Facts] = None
+    """What the message says, if it was read for that, and is so short that this was kept."""
 
     def within(self, name: str) -> Found:
         r"""Returns the same as it is called from outside the member of this name, in which `!` is written as `\x21`."""
@@ -146,10 +131,9 @@ class Found(NamedTuple):
         """Returns the same with more that is to be said of it."""
         return self._replace(note="; ".join(filter(None, (self.note, *notes))))
 
-    def opened(self, message: Optional[Converted]) -> Found:
-        """Returns the same after the content that the message holds was looked into, with the message if it is short."""
-        kept = message if message is not None and len(message.der) <= _KEPT else None
-        return Found(*self[:-2], True, kept)
+    def opened(self, facts: Optional[Facts]) -> Found:
+        """Returns the same after the content that the message holds was looked into, with what it says if it is short."""
+        return Found(*self[:-2], True, facts)
 
     def with_content(self, content: Optional[Content]) -> Found:
         """Returns the same with the content that it covers, of which it needs none any more."""

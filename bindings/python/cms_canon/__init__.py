@@ -21,7 +21,6 @@ A call works in this process, by the library that the package contains. It lets 
 from __future__ import annotations
 
 import ctypes
-import struct
 from collections.abc import Coroutine
 from functools import cached_property
 from typing import Any, Callable, Iterable, Iterator, List, NamedTuple, Optional, Sequence, Tuple, Union
@@ -79,11 +78,7 @@ __all__ = [
 
 _TRUNCATED = 1  # the reason of E1
 _LISTING = 8192  # octets of room for a first call
-_OCTETS_PER_FINDING, _OTHER_FINDINGS = 3, 64  # a signer of 19 octets may have six; the others are for the message
-
-_NO_DOCUMENTS = (*_calls.optional_of(None), *_calls.optional_of(None))
 _BAD, _UNKNOWN = 17, 18  # the findings that are the verdicts of a verifier
-_FINDING = struct.Struct("=QII")  # signer, code, and whether there is a signer
 
 
 def convert(data: Octets, limit: int = LIMIT) -> bytes:
@@ -352,7 +347,7 @@ def check(
     """
     octets, most = _calls.octets_of(data), _calls.limit_of(limit)
     if content is None and stamped is None and verifier is None:
-        return _found(_calls.library.cms_canon_check, octets, *_NO_DOCUMENTS, most)
+        return _found(_calls.library.cms_canon_check, octets, *_calls.NO_DOCUMENTS, most)
     are_short = is_in_memory(content, "content"), is_in_memory(stamped, "what was stamped")
     if content is stamped and not all(are_short):
         raise ValueError("content and what was stamped are not the same file or pieces")
@@ -381,9 +376,12 @@ def _covers_content(message: Message) -> bool:
 
 def _found(function: Any, octets: bytes, *words: object) -> List[Finding]:
     """Returns the findings of a call."""
-    room = len(octets) // _OCTETS_PER_FINDING + _OTHER_FINDINGS
-    items = _calls.called(function, room, octets, len(octets), *words, size=_FINDING.size)
-    return [Finding(code, signer if has_signer else None) for signer, code, has_signer in _FINDING.iter_unpack(items)]
+    return _findings_in(_calls.called_for_findings(function, octets, *words))
+
+
+def _findings_in(items: bytes) -> List[Finding]:
+    """Returns findings that are there as C has them."""
+    return [Finding(code, signer if has_signer else None) for signer, code, has_signer in _calls.FINDING.iter_unpack(items)]
 
 
 def _judged(finding: Finding, verifier: Verifier, message: Message, content: Optional[bytes]) -> Optional[Finding]:

@@ -10,6 +10,7 @@ from __future__ import annotations
 import ctypes
 import mmap
 import operator
+import struct
 from pathlib import Path
 from typing import Any, List, Optional, Tuple, Union
 
@@ -24,6 +25,8 @@ MAX_NUMBER = (1 << 64) - 1  # no message has so many signers
 DONE, DIFFERENT, REFUSED, OUT_OF_MEMORY, ROOM_TOO_SMALL = 0, 1, 3, 5, 6
 NO_SIGNED_DATA, NO_CONTENT = 101, 103  # 101 is the first of the reasons that are none of E1 to E19
 
+FINDING = struct.Struct("=QII")  # signer, code, and whether there is a signer
+_OCTETS_PER_FINDING, _OTHER_FINDINGS = 3, 64  # a signer of 19 octets may have six; the others are for the message
 _MAX_LIMIT = 1 << 40
 _LARGE = 1 << 17  # octets of memory
 
@@ -126,6 +129,9 @@ def optional_of(octets: Optional[bytes]) -> Tuple[bytes, int, bool]:
     return (b"", 0, False) if octets is None else (octets, len(octets), True)
 
 
+NO_DOCUMENTS = (*optional_of(None), *optional_of(None))
+
+
 def limit_of(limit: int) -> int:
     octets = whole(limit, "a limit")
     if not 0 <= octets <= _MAX_LIMIT:
@@ -195,6 +201,11 @@ def _called_with(function: Any, room: int, words: Tuple[object, ...], size: int)
     if outcome.status == DONE:
         return bytes(memoryview(output)[: outcome.octets * size])
     raise error_of(outcome)
+
+
+def called_for_findings(function: Any, octets: bytes, *words: object) -> bytes:
+    """Calls for the findings of a message, and returns them as C has them."""
+    return called(function, len(octets) // _OCTETS_PER_FINDING + _OTHER_FINDINGS, octets, len(octets), *words, size=FINDING.size)
 
 
 def _memory_for(count: int, size: int) -> Union[bytearray, mmap.mmap]:

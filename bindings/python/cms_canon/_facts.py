@@ -10,7 +10,7 @@ import struct
 from typing import Dict, List, NamedTuple, Optional, Tuple
 
 from . import _kinds as kinds
-from ._calls import LIMIT, called, library
+from ._calls import LIMIT, NO_DOCUMENTS, called, called_for_findings, library
 from ._rows import dotted, room_of_rows
 
 _ROW = struct.Struct("=QQII")  # where its octets begin, how many there are, kind, level
@@ -84,6 +84,9 @@ class Signer:
 class Facts(NamedTuple):
     """What a message says."""
 
+    der: bytes
+    findings: Optional[bytes]
+    """What is found in the message by itself, as C has it; None if that was not asked for."""
     kind: str
     """`signed-data`, `request` or `response`."""
     content_type: Optional[str]
@@ -109,15 +112,37 @@ class TokenFacts(NamedTuple):
     """The contents octets of the OBJECT IDENTIFIER of the algorithm of the imprint."""
 
 
-def facts_of(der: bytes, limit: int = LIMIT) -> Facts:
-    """Returns what a message in DER says, as `convert` returns it. Raises `Refused` if it is no message, and `MemoryError` if memory runs out."""
+def facts_of(octets: bytes, checks: bool, limit: int = LIMIT) -> Facts:
+    """Returns what the one message in these octets says, and what `check` finds in it without a document if `checks` is true.
+
+    The calls of the library come one right after another, since each of them alone would find the processor's caches full of something else.
+    Raises `Refused` if the octets are no message, and `MemoryError` if memory runs out.
+    """
+    der = called(library.cms_canon_convert, len(octets) + 64, octets, len(octets), limit)
+    rows = called(library.cms_canon_fields, room_of_rows(len(der)), der, len(der), limit, size=_ROW.size)
+    findings = called_for_findings(library.cms_canon_check, octets, *NO_DOCUMENTS, limit) if checks else None
     fields: Dict[int, Tuple[int, int]] = {}
     certificates: List[Tuple[int, int]] = []
     signers: List[Signer] = []
+    count = _take_rows(der, rows, fields, certificates, signers)
+    content_type, content = fields.get(kinds.CONTENT_TYPE), fields.get(kinds.CONTENT)
+    return Facts(
+        der,
+        findings,
+        _KINDS[_ROW.unpack_from(rows)[2]],
+        None if content_type is None else dotted(der[content_type[0] : content_type[1]]),
+        None if content is None else memoryview(der)[content[0] : content[1]],
+        certificates,
+        signers,
+        count,
+    )
+
+
+def _take_rows(der: bytes, rows: bytes, fields: Dict[int, Tuple[int, int]], certificates: List[Tuple[int, int]], signers: List[Signer]) -> int:
+    """Takes the fields of the message itself, its certificates and its signers from the rows, and returns how many signers there are."""
     latest: Dict[int, Signer] = {}  # the last signer at each level
-    count = 0
     values: List[bytes] = []
-    rows = called(library.cms_canon_fields, room_of_rows(len(der)), der, len(der), limit, size=_ROW.size)
+    count = 0
     for start, length, kind, level in _ROW.iter_unpack(rows):
         if kind in _OF_SIGNER:
             latest[level - 1].fields[kind] = der[start : start + length]
@@ -135,16 +160,7 @@ def facts_of(der: bytes, limit: int = LIMIT) -> Facts:
             count += 1
         elif kind == _COUNTERSIGNATURE:
             signers.append(_countersigner(latest, level))
-    begin, end = fields.get(kinds.CONTENT, (0, -1))
-    content_type = fields.get(kinds.CONTENT_TYPE)
-    return Facts(
-        _KINDS[_ROW.unpack_from(rows)[2]],
-        None if content_type is None else dotted(der[content_type[0] : content_type[1]]),
-        None if end < 0 else memoryview(der)[begin:end],
-        certificates,
-        signers,
-        count,
-    )
+    return count
 
 
 def _countersigner(latest: Dict[int, Signer], level: int) -> Signer:
