@@ -17,13 +17,14 @@ import cms_canon
 from .cluster import Cluster, NoCluster
 from .folders import texts_of_folder
 from .opening import WORKERS_ENDING, for_others
+from .options import Options
 from .processes import Processes
 from .reading import Part, path_text_of, text_of
 from .store import Store
 from .tables import OF_PARTS, PARTS
 from .versions import own_version
 from .watching import Counts, State, Watch, counts_in, state_of
-from .working import Options, Worker
+from .working import Worker
 
 ROWS_TOGETHER = 4000  # rows of lines that are stored in one transaction
 MOST_SECONDS = 2.0  # after which they are stored, however few they are
