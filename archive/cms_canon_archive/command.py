@@ -232,13 +232,14 @@ def work_command(url: str, jobs: int, stays: float, together: int, patience: flo
     """
     import signal
 
-    from .indexing import tend, work
+    from .indexing import import_readers, tend, work
     from .processes import Processes
     from .watching import Watch
 
     store = _awaited(url, stays)
     watch = Watch(store.url, None)
     store.close()
+    import_readers()
     with Processes(jobs, partial(work, store.url, Options(together, patience, stays)), line_of, patience) as processes:
         signal.signal(signal.SIGTERM, lambda *_: sys.exit(128 + signal.SIGTERM))
         tend(processes, watch, lambda state: None)

@@ -12,18 +12,18 @@ import hashlib
 import warnings
 from dataclasses import dataclass, field
 from functools import lru_cache
-from typing import AbstractSet, Any, Dict, FrozenSet, Iterable, Iterator, List, NamedTuple, Optional, Tuple
-
-from cryptography import x509
-from cryptography.hazmat.primitives.asymmetric import dsa, ec, rsa
+from typing import TYPE_CHECKING, AbstractSet, Any, Dict, FrozenSet, Iterable, Iterator, List, NamedTuple, Optional, Tuple
 
 import cms_canon
-from cms_canon import verifier
 from cms_canon._names import NAMES
 
 from .containers.found import GOOD, Class, Content, Found, State, digest_of
 from .containers.packed import why_of
 from .containers.sources import Ended
+
+if TYPE_CHECKING:
+    from cms_canon import verifier
+    from cryptography import x509
 
 MOST_LISTED = 1000  # signers, tokens or findings of one message that are recorded
 SHORT = 1 << 13  # octets of a certificate of which is kept what it says
@@ -128,6 +128,8 @@ _NO_CERTIFICATE = _Certificate(b"", 0, None)
 
 
 def _key_of(certificate: x509.Certificate) -> Tuple[Optional[str], Optional[int]]:
+    from cryptography.hazmat.primitives.asymmetric import dsa, ec, rsa
+
     key = certificate.public_key()
     if isinstance(key, rsa.RSAPublicKey):
         return "RSA", key.key_size
@@ -159,6 +161,9 @@ def _key_identifier(certificate: verifier._Certificate) -> Optional[bytes]:
 
 
 def _read_certificate(octets: bytes) -> Optional[_Certificate]:
+    from cms_canon import verifier
+    from cryptography import x509
+
     try:
         known = verifier._certificate(octets)
     except ValueError:
@@ -198,6 +203,8 @@ def _oid_name(oid: str) -> str:
 
 def _one(octets: bytes) -> Optional[Tuple[int, bytes]]:
     """Returns the identifier and the contents of the one element in DER; None if it is not one."""
+    from cms_canon import verifier
+
     try:
         (element,) = verifier._elements(octets)
     except ValueError:
@@ -377,6 +384,8 @@ class _Verified(NamedTuple):
 
 def _verified(octets: bytes, message: cms_canon.Message, content: Optional[Content]) -> _Verified:
     """Verifies the signatures. If the content itself is signed and is not there, or too long to be handed over, nothing is known."""
+    from cms_canon import verifier
+
     own = frozenset(number for number, it in enumerate(message.signers) if it.signed_attributes is None)
     given = None
     if message.content is None and own:

@@ -65,7 +65,7 @@ def migrate(connection: sa.engine.Connection) -> None:
         connection.execute(sa.schema.CreateTable(table, if_not_exists=True))
         for index in sorted(table.indexes, key=lambda it: str(it.name)):
             if index.name != "places_by_digest":  # which is made when the first rows are all there
-                index.create(connection, checkfirst=True)
+                connection.execute(sa.schema.CreateIndex(index, if_not_exists=True))
     if before:
         _take_over(connection)
     _make_views(connection)

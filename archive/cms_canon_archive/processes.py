@@ -3,6 +3,7 @@
 from __future__ import annotations
 
 import ctypes
+import gc
 import os
 import signal
 import sys
@@ -126,6 +127,7 @@ class Processes:
         self._processes: List[_Process] = []
 
     def __enter__(self) -> Processes:
+        gc.freeze()  # or each process would look through the modules again and again, and so copy them
         self._processes = [self._begin() for _ in range(self._jobs)]
         return self
 

@@ -20,7 +20,6 @@ import cms_canon
 
 from .containers import armour
 from .containers.armour import wanted_by
-from .containers.files import Unreadable, found_in_path
 from .containers.found import Class, Content, Found, Octets
 from .containers.packed import ENDINGS, PACKINGS, name_inside, why_of
 from .containers.sources import DEEPEST, TooMuch
@@ -229,6 +228,8 @@ def unread(entry: Entry, error: str) -> Found:
 
 def items_of(entry: Entry) -> Iterator[Item]:
     """Gives what is found in a file, and last the file itself."""
+    from .containers.files import Unreadable, found_in_path
+
     left = [MOST_BESIDE]
     try:
         for it in found_in_path(entry.path):

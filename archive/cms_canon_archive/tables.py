@@ -14,6 +14,7 @@ from enum import IntEnum
 from typing import Any, Dict, Iterable, List, Optional, Tuple
 
 import sqlalchemy as sa
+from sqlalchemy.dialects import sqlite
 from sqlalchemy.ext.compiler import compiles
 
 from cms_canon._texts import REFUSALS
@@ -212,6 +213,15 @@ LISTS = {"signed_by": PLACE_SIGNERS, "times": PLACE_TIMES}  # the lists of a row
 KEYS = tuple(it.name for it in _keys())
 OF_PARTS = (PLACES, PLACE_SIGNERS, PLACE_TIMES)
 BY_DIGEST = sa.Index("places_by_digest", PLACES.c.digest)
+
+
+def insertion(table: sa.Table, dialect: str) -> Any:
+    """Returns the statement that adds rows in a dialect, and can say what becomes of one whose key is there."""
+    if dialect == "postgresql":
+        from sqlalchemy.dialects import postgresql  # which a store in a file does not need
+
+        return postgresql.insert(table)
+    return sqlite.insert(table)
 
 
 def columns_of(table: sa.Table) -> List[sa.Column]:

@@ -2,7 +2,6 @@
 
 from __future__ import annotations
 
-import gc
 import time
 from typing import Callable, List, Optional, Sequence
 
@@ -37,8 +36,6 @@ class Worker:
     def run(self) -> None:
         """Works until no part is left. A session that is lost is begun again, as long as the database replies in time."""
         wait = _SHORTEST_WAIT
-        gc.collect()
-        gc.freeze()  # or the modules would be looked through again and again
         try:
             while True:
                 try:
