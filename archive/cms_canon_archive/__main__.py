@@ -1,5 +1,6 @@
 """Starts the command `cms-canon-archive`, or says which package it needs and is not there."""
 
+import gc
 import sys
 
 from .faults import line_of_missing
@@ -7,6 +8,7 @@ from .faults import line_of_missing
 
 def main() -> None:
     """Runs the command. If a package is missing, says which, with the status that the command has for it."""
+    gc.set_threshold(10_000)  # or what modules make, which stays, is looked through again and again while more is imported
     try:
         from .command import main as command
 

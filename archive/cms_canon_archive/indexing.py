@@ -95,12 +95,13 @@ class Done(NamedTuple):
 
 
 def finish(store: Store, tops: Iterable[str], before: Counts) -> Done:
-    """Makes what is made when all parts are done, and returns what was done since."""
+    """Makes what is made when all parts are done, closes the store, and returns what was done since."""
     store.finish()
     _let_go(store)
     store.note_index(map(_noted, tops), cms_canon.__version__)
     with store.engine.connect() as connection:
         counts = counts_in(connection).since(before)
+    store.close()  # or SQLite would leave its log beside it
     return Done(counts.files, counts.unchanged, counts.gone)
 
 

@@ -127,7 +127,7 @@ PARTS = sa.Table(
 PARTS.append_constraint(sa.CheckConstraint(_Plain([PARTS.c.path, PARTS.c.name, PARTS.c.whole]), name="parts_plain"))
 IS_TO_DO, IS_TAKEN, _, IS_GIVEN_UP = (PARTS.c.state == sa.literal_column(str(int(it))) for it in PartState)  # or SQLite takes no index for it
 for _name, _column, _where in (("to_do", "id", IS_TO_DO), ("taken", "holder", IS_TAKEN), ("given_up", "id", IS_GIVEN_UP)):
-    sa.Index(f"parts_{_name}", PARTS.c[_column], postgresql_where=_where, sqlite_where=_where)
+    sa.Index(f"parts_{_name}", PARTS.c[_column], sqlite_where=_where)
 
 WORKERS = sa.Table(
     "workers",
