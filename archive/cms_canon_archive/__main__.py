@@ -8,7 +8,7 @@ from .faults import line_of_missing
 
 def main() -> None:
     """Runs the command. If a package is missing, says which, with the status that the command has for it."""
-    gc.set_threshold(10_000)  # or what modules make, which stays, is looked through again and again while more is imported
+    gc.set_threshold(10_000)  # or what modules make, which stays, would be looked through again and again while more are imported
     try:
         from .command import main as command
 
