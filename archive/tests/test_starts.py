@@ -17,7 +17,7 @@ from running import SECONDS, asked, command, ended, environment_of, words_of
 
 pytestmark = [pytest.mark.archive, needs("click", "tqdm", "sqlalchemy", "cryptography")]
 RUNS = 10
-OF_WORDS, OF_AN_INDEX = 0.15, 0.4  # seconds of a processor
+OF_WORDS, OF_AN_INDEX = 0.15, 0.45  # seconds of a processor
 WORDS = {
     "the help": (0, "--help"), "the help of a command": (0, "index", "--help"), "the version": (0, "--version"), "a wrong word": (2, "wrong"),
     "a wrong option": (2, "index", "--wrong"),
@@ -28,9 +28,9 @@ OF_SOME_FILES = {
 }
 OF_SOME_WORDS = {
     *("cms_canon_archive.cluster", "cms_canon_archive.report", "dask", "distributed", "jinja2", "matplotlib", "numpy", "psycopg2"),
-    "sqlalchemy.dialects.postgresql",
+    *("asyncio", "sqlalchemy.dialects.postgresql"),
 }
-OF_A_STORE = {"asyncio", "cms_canon_archive.store", "csv", "email", "importlib.metadata", "multiprocessing", "socket", "sqlalchemy", "sqlite3", "ssl"}
+OF_A_STORE = {"cms_canon_archive.store", "csv", "email", "importlib.metadata", "multiprocessing", "socket", "sqlalchemy", "sqlite3", "ssl"}
 OF_WORK = {"cms_canon_archive.texts", "json", "tarfile", "tqdm"}
 
 
