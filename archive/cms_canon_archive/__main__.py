@@ -1,6 +1,5 @@
 """Starts the command `cms-canon-archive`, or says which package it needs and is not there."""
 
-import gc
 import sys
 
 from .faults import line_of_missing
@@ -8,7 +7,6 @@ from .faults import line_of_missing
 
 def main() -> None:
     """Runs the command. If a package is missing, says which, with the status that the command has for it."""
-    gc.set_threshold(10_000)  # or what modules make, which stays, would be looked through again and again while more are imported
     sys.modules.setdefault("greenlet", None)  # type: ignore[arg-type]  # as if it were not installed: SQLAlchemy would import asyncio with it
     try:
         from .command import main as command

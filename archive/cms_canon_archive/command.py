@@ -13,6 +13,7 @@ from typing import TYPE_CHECKING, Any, Dict, Iterable, Iterator, List, Optional,
 import click
 
 from .faults import line_of
+from .importing import uncollected
 from .options import PATIENCE, TOGETHER, Options
 
 if TYPE_CHECKING:
@@ -40,7 +41,7 @@ class _Commands(click.Group):
     def invoke(self, context: click.Context) -> object:
         try:
             return super().invoke(context)
-        except (click.ClickException, click.Abort, click.exceptions.Exit):
+        except (click.ClickException, click.Abort, click.exceptions.Exit):  # for which no module of a store is imported
             raise
         except ValueError as error:
             raise click.ClickException(str(error))
@@ -175,12 +176,13 @@ def index_command(
     file that is stored as it is now (size, time of change, inode) is not read again. The command may be stopped at any moment, and goes on
     from there when it is called again. What cannot be read is stored as such.
     """
-    from .indexing import Plan, index
-    from .opening import is_sqlite, url_of
-    from .showing import Bar
-    from .store import Store
-    from .walking import is_there, tops_of
-    from .writing import write
+    with uncollected():
+        from .indexing import Plan, index
+        from .opening import is_sqlite, url_of
+        from .showing import Bar
+        from .store import Store
+        from .walking import is_there, tops_of
+        from .writing import write
 
     if via_pipe:
         click.echo(_pipe(paths, url))
