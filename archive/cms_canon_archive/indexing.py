@@ -124,7 +124,8 @@ def index(store: Store, plan: Plan, line_of: Callable[[Exception], Optional[str]
     """
     watch = Watch(store.url, store.wait)
     cluster = _cluster_of(plan.scheduler) if plan.scheduler else None
-    before = watch.asked(counts_in)
+    with store.engine.connect() as connection:
+        before = counts_in(connection)
     to_do = put_in(store, plan.tops, plan.anew, plan.verifies)
     store.close()  # or processes begun now would have its connections
     if cluster is not None:
