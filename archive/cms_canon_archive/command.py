@@ -13,7 +13,6 @@ from typing import TYPE_CHECKING, Any, Dict, Iterable, Iterator, List, Optional,
 import click
 
 from .faults import line_of
-from .importing import uncollected
 from .options import PATIENCE, TOGETHER, Options
 
 if TYPE_CHECKING:
@@ -176,13 +175,12 @@ def index_command(
     file that is stored as it is now (size, time of change, inode) is not read again. The command may be stopped at any moment, and goes on
     from there when it is called again. What cannot be read is stored as such.
     """
-    with uncollected():
-        from .indexing import Plan, index
-        from .opening import is_sqlite, url_of
-        from .showing import Bar
-        from .store import Store
-        from .walking import is_there, tops_of
-        from .writing import write
+    from .indexing import Plan, index
+    from .opening import is_sqlite, url_of
+    from .showing import Bar
+    from .store import Store
+    from .walking import is_there, tops_of
+    from .writing import write
 
     if via_pipe:
         click.echo(_pipe(paths, url))
