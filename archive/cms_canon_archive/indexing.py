@@ -31,8 +31,7 @@ if TYPE_CHECKING:
 
 ROWS_TOGETHER = 4000  # rows of lines that are stored in one transaction
 MOST_SECONDS = 2.0  # after which they are stored, however few they are
-
-
+_MOST_COUNTED = 10_000  # parts: no machine begins more workers
 _READERS = (f"{__package__}.containers.files", "cms_canon.verifier")  # what nearly every file needs that is read
 _POLLED = 1.0  # seconds between two looks at the store
 _TENDED = 0.5  # seconds between two looks at the processes of this machine, if none ends
@@ -47,7 +46,7 @@ Show = Callable[[State, Counts], None]  # shows where an index is, and what was 
 
 
 def put_in(store: Store, tops: Sequence[str], anew: bool = False, verifies: bool = False) -> int:
-    """Has the parts of these folders and files done, and done again if they are done or being done. Returns how many are to be done by now."""
+    """Has the parts of these folders and files done, and done again if they are done or being done. Returns how many are to be done, if they are few."""
     how = {"anew": anew, "verifies": verifies}
 
     def put() -> int:
@@ -56,7 +55,8 @@ def put_in(store: Store, tops: Sequence[str], anew: bool = False, verifies: bool
                 connection.exec_driver_sql("BEGIN IMMEDIATE")
             for top in tops:
                 _put_top(connection, top, os.path.isdir(top), how)
-            return int(connection.execute(sa.select(sa.func.count()).select_from(PARTS).where(IS_TO_DO)).scalar_one())
+            some = sa.select(PARTS.c.id).where(IS_TO_DO).limit(_MOST_COUNTED).subquery()
+            return int(connection.execute(sa.select(sa.func.count()).select_from(some)).scalar_one())
 
     to_do = store.tried(put)
     store.note_paths(map(_noted, tops), own_version().noted())
@@ -149,7 +149,7 @@ def work(url: Any, options: Options) -> None:
 
 def _by_processes(watch: Watch, plan: Plan, to_do: int, line_of: Callable[[Exception], Optional[str]], show: Callable[[State], None]) -> None:
     """Has processes work, but no more than there are parts to be done, as far as can be seen before any works."""
-    parts, has_files = _seen_in(plan.tops, plan.jobs)
+    parts, has_files = _seen_in(plan.tops, plan.jobs + 1)  # or one process alone would look into no folder
     if has_files:
         import_readers()
     jobs = min(plan.jobs, max(to_do, parts))

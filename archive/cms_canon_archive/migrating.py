@@ -76,7 +76,7 @@ def migrate(connection: sa.engine.Connection) -> None:
 
 
 def _make_index(connection: sa.engine.Connection, index: sa.Index) -> None:
-    """Makes an index, of the same rows in both databases: named for PostgreSQL where tables are defined, these would have all import its dialect."""
+    """Makes an index. It is of the same rows in PostgreSQL as in SQLite: if its table said so, the dialect would be imported for each store."""
     if connection.dialect.name == "postgresql":
         index.dialect_kwargs["postgresql_where"] = index.dialect_kwargs.get("sqlite_where")
     connection.execute(sa.schema.CreateIndex(index, if_not_exists=True))

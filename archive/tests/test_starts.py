@@ -69,9 +69,11 @@ def test_words(home):
 
 def test_empty(home):
     """Nothing is imported for files of one kind by an index that has none, or by its worker."""
-    imported = imported_by(home, "index", empty_in(home), "--store", "index.db")
-    count_same(f"what {AN_INDEX} imports", among(imported, OF_SOME_FILES | OF_SOME_WORDS), [])
-    count_same("what it imports", among(imported, {"cms_canon_archive.store"}), ["cms_canon_archive.store"])
+    empty = empty_in(home)
+    for jobs in (1, 3):
+        imported = imported_by(home, "index", empty, "--store", f"{jobs}.db", "--jobs", jobs)
+        count_same(f"what {AN_INDEX} imports", among(imported, OF_SOME_FILES | OF_SOME_WORDS), [])
+        count_same("what asks its store", among(imported, {"cms_canon_archive.store"}), ["cms_canon_archive.store"])
 
 
 def test_workers(home):
