@@ -14,6 +14,7 @@ import tempfile
 from functools import partial
 from typing import Any, Callable, Dict, List, Sequence, Set
 
+from .faults import Complaint
 from .processes import end_with
 
 SECONDS = 3.0  # for the scheduler to reply
@@ -22,7 +23,7 @@ _MOST_THREADS = 256  # of a worker, as it says
 _MOST_TEXT = 500  # characters of an error of a worker that are shown
 
 
-class NoCluster(Exception):
+class NoCluster(Complaint):
     """There is no cluster that could work."""
 
 

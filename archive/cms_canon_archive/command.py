@@ -1,41 +1,26 @@
-"""The command `cms-canon-archive`."""
+"""The command `cms-canon-archive`: its words, options and help. What does the work of a word is imported when the word is called."""
 
 from __future__ import annotations
 
-import csv
 import errno
-import json
 import os
-import shlex
-import signal
 import sys
 import time
 from functools import partial
 from pathlib import Path
-from typing import Any, Dict, Iterable, Iterator, List, Optional, Sequence, Tuple
+from typing import TYPE_CHECKING, Any, Dict, Iterable, Iterator, List, Optional, Sequence, Tuple
 
 import click
-from sqlalchemy.exc import SQLAlchemyError
 
-import cms_canon
+from .faults import line_of
+from .options import PATIENCE, TOGETHER, Options
 
-from . import digests, exporting, loading, queries, verifying
-from .containers.files import kind_of
-from .containers.found import State as DigestState
-from .digests import NoDigests
-from .cluster import NoCluster
-from .indexing import Plan, gathered, index, tend, work
-from .opening import NoIndex, NoStore, for_others, is_sqlite, url_of, without_password
-from .pages import Page
-from .processes import Failed, Processes
-from .reading import Row, parts_of
-from .showing import Bar, line_of_worker
-from .store import Store
-from .texts import escaped_in_json, path_text_of, shown, text_of
-from .versions import OtherVersion
-from .walking import entries_of, is_there, tops_of
-from .watching import Watch, given_up, state_of, workers_of
-from .working import PATIENCE, TOGETHER, Options
+if TYPE_CHECKING:
+    from .digests import Group
+    from .exporting import Copied
+    from .reading import Row
+    from .store import Store
+    from .watching import Watch
 
 DEFAULT_STORE = "index.db"
 HELP = {"help_option_names": ["-h", "--help"]}
@@ -55,32 +40,27 @@ class _Commands(click.Group):
     def invoke(self, context: click.Context) -> object:
         try:
             return super().invoke(context)
-        except SQLAlchemyError as error:
-            raise click.ClickException(f"the store: {_without_secrets(str(getattr(error, 'orig', None) or error))}".strip())
-        except ModuleNotFoundError as missing:
-            raise click.ClickException(f"this needs the package {missing.name}")
-        except (NoStore, NoCluster, NoDigests, Failed, ValueError) as error:
+        except (click.ClickException, click.Abort, click.exceptions.Exit):  # for which no module of a store is imported
+            raise
+        except ValueError as error:
             raise click.ClickException(str(error))
-        except OSError as error:
-            if error.errno == errno.EPIPE:
+        except Exception as error:
+            line = None if isinstance(error, OSError) and error.errno == errno.EPIPE else line_of(error)
+            if line is None:
                 raise
-            raise click.ClickException(str(error))
+            raise click.ClickException(line)
 
 
-def _without_secrets(text: str) -> str:
-    """Returns the text of an error of a driver without the words of the command that name a store with a password."""
-    for word in sys.argv:
-        if "://" in word:
-            try:
-                password = url_of(word.partition("=")[2] if word.startswith("--store=") else word).password
-            except NoStore:
-                password = None
-            text = text.replace(str(password), "***") if password else text
-    return text
+def _say_version(context: click.Context, _: click.Parameter, is_asked: bool) -> None:
+    if is_asked and not context.resilient_parsing:
+        import cms_canon
+
+        click.echo(f"cms-canon-archive {cms_canon.__version__}")
+        context.exit()
 
 
 @click.group(cls=_Commands, context_settings=HELP)
-@click.version_option(cms_canon.__version__, message="cms-canon-archive %(version)s")
+@click.option("--version", is_flag=True, is_eager=True, expose_value=False, callback=_say_version, help="Show the version and exit.")
 def main() -> None:
     """Index the signatures and time-stamps of an archive: their places, whether they fit their documents, and which algorithms they use.
 
@@ -91,34 +71,18 @@ def main() -> None:
 # ---- tables
 
 
-def _cell(value: object) -> str:
-    return "-" if value is None or value == "" else shown(str(value))
+def _write_named(rows: Iterable[Row], form: Optional[str], columns: Sequence[str]) -> None:
+    """Writes rows of places, each with the name of its file."""
+    from .writing import write
 
-
-def _write(rows: Iterable[Dict[str, Any]], form: Optional[str], columns: Sequence[str]) -> None:
-    """Writes the rows as JSON, or these columns of them as CSV or with tabs between."""
-    if form == "csv":
-        writer = csv.writer(sys.stdout, lineterminator="\n")
-        writer.writerow(columns)
-        writer.writerows([_cell_of_csv(row[it]) for it in columns] for row in rows)
-        return
-    for row in rows:
-        click.echo(_json_text(row) if form == "json" else "\t".join(_cell(row[it]) for it in columns))
-
-
-def _json_text(row: Dict[str, Any]) -> str:
-    return escaped_in_json(json.dumps(row, ensure_ascii=False, sort_keys=True))
-
-
-def _cell_of_csv(value: object) -> str:
-    """Returns a value for a table program, which must not take it for a formula."""
-    text = "" if value is None else shown(str(value))
-    return f"'{text}" if text[:1] in ("=", "+", "-", "@") else text
+    write(_with_name(rows), form, columns)
 
 
 def _with_name(rows: Iterable[Row]) -> Iterator[Dict[str, Any]]:
+    from .queries import name_of
+
     for row in rows:
-        yield {"file": queries.name_of(row), **row}
+        yield {"file": name_of(row), **row}
 
 
 def _with_why(row: Dict[str, Any]) -> Dict[str, Any]:
@@ -135,6 +99,10 @@ def _pipe(paths: Sequence[str], url: str) -> str:
 
     Workers wait for a minute, so that they may begin before there is anything to do.
     """
+    import shlex
+
+    from .opening import for_others, is_sqlite, url_of, without_password
+
     named = " ".join(shlex.quote(os.path.abspath(path)) for path in paths)
     if is_sqlite(url_of(url)):
         return (
@@ -148,6 +116,9 @@ def _pipe(paths: Sequence[str], url: str) -> str:
 
 def _end_if_missing(paths: Sequence[str]) -> None:
     """Ends the command with status 1 if not all paths are there."""
+    from .texts import text_of
+    from .walking import is_there
+
     missing = [path for path in paths if not is_there(path)]
     for path in missing:
         click.echo(f"{text_of(path)}: {_why_missing(path)}", err=True)
@@ -156,19 +127,12 @@ def _end_if_missing(paths: Sequence[str]) -> None:
 
 
 def _why_missing(path: str) -> str:
+    from .containers.files import kind_of
+
     try:
         return f"it is {kind_of(os.stat(path).st_mode)}, and no file or folder"
     except OSError:
         return "there is no file or folder of this name"
-
-
-def _line_of(error: Exception) -> Optional[str]:
-    """Returns the line that says an error of a worker; None if it is a fault of the program."""
-    if isinstance(error, SQLAlchemyError):
-        return f"the store: {_without_secrets(str(getattr(error, 'orig', None) or error))}".strip()
-    if isinstance(error, ModuleNotFoundError):
-        return f"this needs the package {error.name}"
-    return str(error) if isinstance(error, (NoStore, OtherVersion, OSError)) else None
 
 
 _together = click.option("--together", type=click.IntRange(1), default=TOGETHER, show_default=True, help="Files stored in one transaction.")
@@ -211,6 +175,13 @@ def index_command(
     file that is stored as it is now (size, time of change, inode) is not read again. The command may be stopped at any moment, and goes on
     from there when it is called again. What cannot be read is stored as such.
     """
+    from .indexing import Plan, index
+    from .opening import is_sqlite, url_of
+    from .showing import Bar
+    from .store import Store
+    from .walking import is_there, tops_of
+    from .writing import write
+
     if via_pipe:
         click.echo(_pipe(paths, url))
         return
@@ -222,15 +193,18 @@ def index_command(
     tops = tops_of(filter(is_there, paths))
     plan = Plan(tops, Options(together, patience), jobs, scheduler, anew, verifies)
     with Bar() as bar:
-        done = index(store, plan, _line_of, bar.show)
+        done = index(store, plan, line_of, bar.show)
     if form == "json":
-        _write([{"read": done.files, "unchanged": done.unchanged, "gone": done.gone}], form, ())
+        write([{"read": done.files, "unchanged": done.unchanged, "gone": done.gone}], form, ())
     click.echo(f"{done.files} files read, {done.unchanged} unchanged, {done.gone} gone", err=True)
     _end_if_missing(paths)
 
 
 def _awaited(url: str, stays: float) -> Store:
     """Opens a store once an index has been begun in it, for which it waits as long as a worker stays. Raises `NoIndex` if none was begun by then."""
+    from .opening import NoIndex
+    from .store import Store
+
     end = time.monotonic() + stays
     is_said = False
     while True:
@@ -256,10 +230,17 @@ def work_command(url: str, jobs: int, stays: float, together: int, patience: flo
 
     It takes parts of the archive, and stores what came of them, on any machine that sees the files and reaches the database.
     """
+    import signal
+
+    from .indexing import import_readers, tend, work
+    from .processes import Processes
+    from .watching import Watch
+
     store = _awaited(url, stays)
     watch = Watch(store.url, None)
     store.close()
-    with Processes(jobs, partial(work, store.url, Options(together, patience, stays)), _line_of, patience) as processes:
+    import_readers()
+    with Processes(jobs, partial(work, store.url, Options(together, patience, stays)), line_of, patience) as processes:
         signal.signal(signal.SIGTERM, lambda *_: sys.exit(128 + signal.SIGTERM))
         tend(processes, watch, lambda state: None)
 
@@ -270,6 +251,12 @@ def work_command(url: str, jobs: int, stays: float, together: int, patience: flo
 @_json
 def progress_command(url: str, wait: Optional[float], form: Optional[str]) -> None:
     """Say where an index is that runs anywhere: what is left, files a second, who works, and what failed."""
+    from .showing import line_of_worker
+    from .store import Store
+    from .texts import shown
+    from .watching import Watch, given_up, state_of, workers_of
+    from .writing import write
+
     watch = Watch(Store(url, wait=wait).url, wait)
     first = watch.asked(state_of)
     began = time.monotonic()
@@ -280,7 +267,7 @@ def progress_command(url: str, wait: Optional[float], form: Optional[str]) -> No
     failed = watch.asked(lambda connection: list(given_up(connection)))
     if form == "json":
         row = {**state.counts._asdict(), "to_do": state.to_do, "taken": state.taken, "files_a_second": round(rate, 1), "given_up": failed}
-        _write([{**row, "workers": [it._asdict() for it in workers]}], form, ())
+        write([{**row, "workers": [it._asdict() for it in workers]}], form, ())
         return
     click.echo(f"{state.to_do} parts to do, {state.taken} taken, {state.given_up} given up; {rate:.0f} files a second")
     for it in workers:
@@ -297,9 +284,15 @@ def rows_command(paths: Tuple[str, ...], verifies: bool) -> None:
 
     `load` stores them, also on another machine. The last line says how many there are.
     """
+    import json
+
+    from .reading import parts_of
+    from .walking import entries_of, is_there, tops_of
+    from .writing import write
+
     count = 0
     for part in parts_of(entries_of(tops_of(filter(is_there, paths))), verifies):
-        _write(part.rows, "json", ())
+        write(part.rows, "json", ())
         count += len(part.rows)
     click.echo(json.dumps({"end": count}))
     _end_if_missing(paths)
@@ -310,9 +303,14 @@ def rows_command(paths: Tuple[str, ...], verifies: bool) -> None:
 @_wait
 def load_command(url: str, wait: Optional[float]) -> None:
     """Store the lines of `rows` from the standard input."""
+    from .indexing import gathered
+    from .loading import Lines
+    from .texts import path_text_of
+    from .store import Store
+
     store = Store(url, makes=True, wait=wait)
     own = set(map(path_text_of, store.own_files()))
-    lines = loading.Lines()
+    lines = Lines()
     texts = click.get_text_stream("stdin", encoding="utf-8", errors="surrogateescape")
     for parts in gathered(it for it in lines.parts_of(texts) if it.path not in own):
         store.put(parts)
@@ -336,16 +334,21 @@ def check_command(all_of_them: bool, noted: bool, url: str, wait: Optional[float
 
     The status is 1 if the digests of any message or of a token in it do not fit, or a signature is wrong.
     """
+    from . import queries
+    from .containers.found import State
+    from .store import Store
+    from .writing import write
+
     differs = False
 
     def rows() -> Iterator[Dict[str, Any]]:
         nonlocal differs
         store = Store(url, wait=wait)
         for row in _with_name(queries.noted(store) if noted else queries.checked(store, all_of_them)):
-            differs = differs or row["state"] == DigestState.DIFFERS.value or row["verdict"] == "wrong" or row["wrong_times"] > 0
+            differs = differs or row["state"] == State.DIFFERS.value or row["verdict"] == "wrong" or row["wrong_times"] > 0
             yield row
 
-    _write(rows(), form, ("state", "findings", "verdict", "note", "file"))
+    write(rows(), form, ("state", "findings", "verdict", "note", "file"))
     sys.exit(1 if differs else 0)
 
 
@@ -359,8 +362,11 @@ def signers_command(url: str, wait: Optional[float], form: Optional[str]) -> Non
 
     Anybody can make a certificate with any name, and the signing time is what the signer claims.
     """
+    from .queries import signers
+    from .store import Store
+
     columns = ("subject", "issuer", "serial", "key_identifier", "signing_time", "not_before", "not_after", "digest", "signature", "key", "bits")
-    _write(_with_name(queries.signers(Store(url, wait=wait))), form, (*columns, "number", "file"))
+    _write_named(signers(Store(url, wait=wait)), form, (*columns, "number", "file"))
 
 
 @main.command("algorithms")
@@ -374,12 +380,16 @@ def algorithms_command(weak: bool, url: str, wait: Optional[float], form: Option
 
     Of certificates these are the algorithms by which they are signed, and of manifests only what they compare by MD5 or SHA-1 alone.
     """
+    from . import queries
+    from .store import Store
+    from .writing import write
+
     store = Store(url, wait=wait)
     columns = ("digest", "signature", "key", "bits")
     if weak:
-        _write(_with_name(queries.weak(store)), form, ("of", *columns, "number", "file"))
+        _write_named(queries.weak(store), form, ("of", *columns, "number", "file"))
     else:
-        _write(queries.algorithms(store), form, ("signers", "of", *columns, "is_weak"))
+        write(queries.algorithms(store), form, ("signers", "of", *columns, "is_weak"))
 
 
 @main.command("others")
@@ -389,7 +399,10 @@ def algorithms_command(weak: bool, url: str, wait: Optional[float], form: Option
 @_csv
 def others_command(url: str, wait: Optional[float], form: Optional[str]) -> None:
     """List what is signed by another format, as XAdES or OpenPGP, and what is not looked into, as 7z."""
-    _write(_with_name(queries.others(Store(url, wait=wait))), form, ("what", "form", "note", "file"))
+    from .queries import others
+    from .store import Store
+
+    _write_named(others(Store(url, wait=wait)), form, ("what", "form", "note", "file"))
 
 
 @main.command("times")
@@ -399,7 +412,10 @@ def others_command(url: str, wait: Optional[float], form: Optional[str]) -> None
 @_csv
 def times_command(url: str, wait: Optional[float], form: Optional[str]) -> None:
     """List the times that tokens vouch for, and whether each fits what it covers."""
-    _write(_with_name(queries.times(Store(url, wait=wait))), form, ("time", "state", "policy", "serial", "digest", "number", "file"))
+    from .queries import times
+    from .store import Store
+
+    _write_named(times(Store(url, wait=wait)), form, ("time", "state", "policy", "serial", "digest", "number", "file"))
 
 
 @main.command("same")
@@ -410,6 +426,10 @@ def times_command(url: str, wait: Optional[float], form: Optional[str]) -> None:
 @_csv
 def same_command(file: str, url: str, wait: Optional[float], form: Optional[str]) -> None:
     """List the files that are the same message as one of FILE, whatever that keeps it in."""
+    from . import exporting, queries
+    from .store import Store
+    from .texts import shown
+
     store = Store(url, wait=wait)
     messages = list(exporting.digests_in(file, sys.stdin.buffer.read() if file == "-" else None))
     for message in messages:
@@ -418,7 +438,7 @@ def same_command(file: str, url: str, wait: Optional[float], form: Optional[str]
     if not messages:
         click.echo(f"{shown(file)}: there is no message", err=True)
     digests_found = dict.fromkeys(it.text for it in messages if it.why_not is None)
-    _write(_with_name(row for digest in digests_found for row in queries.same(store, digest)), form, ("file", "length"))
+    _write_named((row for digest in digests_found for row in queries.same(store, digest)), form, ("file", "length"))
     sys.exit(0 if messages and all(it.why_not is None for it in messages) else 1)
 
 
@@ -431,6 +451,9 @@ def digests_command(folder: Path, url: str, wait: Optional[float]) -> None:
 
     So it is found what stores share that are on different machines: 56 octets for each message, and its name.
     """
+    from . import digests
+    from .store import Store
+
     count = digests.write(Store(url, wait=wait), folder)
     click.echo(f"{count} digests written", err=True)
 
@@ -447,6 +470,10 @@ def duplicates_command(others: Tuple[Path, ...], folder: Optional[Path], url: st
 
     No copy of evidence should be deleted for that alone: the files may differ in their octets, and in what lies around the message.
     """
+    from . import digests, queries
+    from .store import Store
+    from .writing import write
+
     if folder is not None:
         _write_shared(digests.duplicates([folder, *others]), form)
         return
@@ -455,14 +482,16 @@ def duplicates_command(others: Tuple[Path, ...], folder: Optional[Path], url: st
     for group in queries.duplicates(Store(url, wait=wait)):
         whole: List[Dict[str, Any]] = [{"digest": group.digest, "files": group.names}]
         each: List[Dict[str, Any]] = [{"digest": group.digest, "file": name} for name in group.names]
-        _write(whole if form == "json" else each, form, ("digest", "file"))
+        write(whole if form == "json" else each, form, ("digest", "file"))
 
 
-def _write_shared(groups: Iterable[digests.Group], form: Optional[str]) -> None:
+def _write_shared(groups: Iterable[Group], form: Optional[str]) -> None:
+    from .writing import write
+
     for group in groups:
         each: List[Dict[str, Any]] = [{"digest": group.digest, "digests": folder, "file": name} for folder, name in group.files]
         whole: List[Dict[str, Any]] = [{"digest": group.digest, "files": [[folder, name] for folder, name in group.files]}]
-        _write(whole if form == "json" else each, form, ("digest", "digests", "file"))
+        write(whole if form == "json" else each, form, ("digest", "digests", "file"))
 
 
 @main.command("refusals")
@@ -475,7 +504,11 @@ def refusals_command(url: str, wait: Optional[float], form: Optional[str]) -> No
 
     `cms-canon help convert` says what the reasons mean, and what to do.
     """
-    _write(map(_with_why, _with_name(queries.refusals(Store(url, wait=wait)))), form, ("why", "file"))
+    from .queries import refusals
+    from .store import Store
+    from .writing import write
+
+    write(map(_with_why, _with_name(refusals(Store(url, wait=wait)))), form, ("why", "file"))
 
 
 @main.command("changed")
@@ -488,7 +521,10 @@ def changed_command(url: str, wait: Optional[float], form: Optional[str]) -> Non
 
     A copy of them in DER would have other octets.
     """
-    _write(_with_name(queries.changed(Store(url, wait=wait))), form, ("file", "kind", "length"))
+    from .queries import changed
+    from .store import Store
+
+    _write_named(changed(Store(url, wait=wait)), form, ("file", "kind", "length"))
 
 
 # ---- files
@@ -499,14 +535,20 @@ def changed_command(url: str, wait: Optional[float], form: Optional[str]) -> Non
 @_json
 def show_command(file: str, form: Optional[str]) -> None:
     """List what is in the messages of FILE, whatever it keeps them in."""
-    _report_each(exporting.shown_in(file, _fields_in_json if form == "json" else _listing), form)
+    from .exporting import shown_in
+
+    _report_each(shown_in(file, _fields_in_json if form == "json" else _listing), form)
 
 
 def _fields_in_json(der: bytes) -> str:
+    import cms_canon
+
     return cms_canon.read(der).to_json()
 
 
 def _listing(der: bytes) -> str:
+    import cms_canon
+
     return cms_canon.show(der)
 
 
@@ -519,22 +561,29 @@ def convert_command(files: Tuple[str, ...], folder: Path, form: Optional[str]) -
 
     A message in a container is named by the file, an exclamation mark, and its place. No file is written over.
     """
-    _report_each((copied for file in files for copied in exporting.convert(file, folder)), form)
+    from .exporting import convert
+
+    _report_each((copied for file in files for copied in convert(file, folder)), form)
 
 
-def _json_of(copied: exporting.Copied) -> Dict[str, Any]:
+def _json_of(copied: Copied) -> Dict[str, Any]:
+    import json
+
     row: Dict[str, Any] = {"file": copied.name, "why_not": copied.why_not}
     return {**row, "message": json.loads(copied.text)} if copied.text else row
 
 
-def _report_each(copies: Iterable[exporting.Copied], form: Optional[str]) -> None:
+def _report_each(copies: Iterable[Copied], form: Optional[str]) -> None:
     """Writes what came of each message, and ends with status 1 if it failed for any, or if there was none."""
+    from .texts import shown
+    from .writing import write
+
     failed = any_at_all = False
     for copied in copies:
         any_at_all = True
         failed = failed or copied.why_not is not None
         if form == "json":
-            _write([_json_of(copied)], form, ())
+            write([_json_of(copied)], form, ())
         elif copied.why_not is not None:
             click.echo(f"{shown(copied.name)}: {copied.why_not}", err=True)
         elif copied.text:
@@ -554,11 +603,16 @@ def export_command(folder: Path, url: str, wait: Optional[float], form: Optional
 
     It is named by its SHA-256, as ab/cdef.., and written once for all files that are the same message. No file is written over.
     """
+    from .exporting import export
+    from .store import Store
+    from .texts import shown
+    from .writing import write
+
     failed = 0
-    for copied in exporting.export(Store(url, wait=wait), folder):
+    for copied in export(Store(url, wait=wait), folder):
         failed += copied.why_not is not None
         if form == "json":
-            _write([_json_of(copied)], form, ())
+            write([_json_of(copied)], form, ())
         elif copied.why_not is not None:
             click.echo(f"{shown(copied.name)}: {copied.why_not}", err=True)
     sys.exit(1 if failed else 0)
@@ -576,17 +630,22 @@ def verify_store_command(sample: Optional[int], url: str, wait: Optional[float],
     The status is 1 if anything is stored otherwise than it is, is not stored, or is yet to be read. Called on another machine than that of the
     workers, it checks them.
     """
+    from .store import Store
+    from .verifying import differing
+    from .watching import Watch
+    from .writing import write
+
     store = Store(url, wait=wait)
     watch = Watch(store.url, wait)
     differs = is_left = _says_what_is_left(watch)
 
     def rows() -> Iterator[Dict[str, Any]]:
         nonlocal differs
-        for row in verifying.differing(store, sample):
+        for row in differing(store, sample):
             differs = True
             yield row
 
-    _write(rows(), form, ("why", "worker", "file"))
+    write(rows(), form, ("why", "worker", "file"))
     if not is_left and _says_what_is_left(watch):  # since an index began meanwhile
         differs = True
     sys.exit(1 if differs else 0)
@@ -594,6 +653,8 @@ def verify_store_command(sample: Optional[int], url: str, wait: Optional[float],
 
 def _says_what_is_left(watch: Watch) -> bool:
     """Says how many parts are yet to be read, and returns whether there are any."""
+    from .watching import state_of
+
     state = watch.asked(state_of)
     left = int(state.to_do + state.taken)
     if left:
@@ -611,6 +672,8 @@ def report_command(file: str, url: str, wait: Optional[float]) -> None:
     It says how many signatures there are and how many fit, in one file for a browser that loads nothing else.
     """
     from . import report
+    from .pages import Page
+    from .store import Store
 
     store = Store(url, wait=wait)
     Page(file).write(report.page_of(report.summary_of(store), store.name()))

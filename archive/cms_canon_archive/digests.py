@@ -16,6 +16,7 @@ from typing import TYPE_CHECKING, Any, BinaryIO, Dict, Iterator, List, NamedTupl
 
 import sqlalchemy as sa
 
+from .faults import Complaint
 from .queries import name_of
 from .store import Store
 from .tables import PARTS, PATH, PLACES
@@ -36,7 +37,7 @@ class Group(NamedTuple):
     files: List[Tuple[str, str]]
 
 
-class NoDigests(Exception):
+class NoDigests(Complaint):
     """A folder has no digests, or they are damaged."""
 
 

@@ -14,7 +14,7 @@ import os
 from typing import AbstractSet, Dict, Iterable, List, NamedTuple, Optional, Set, Tuple
 
 from .containers.packed import why_of
-from .reading import Entry, Read, read_of, reads_of, reads_together, unread
+from .reading import Entry, Read, read_of, reads_of, unread
 from .sessions import Held, Known, New, Outcome
 from .spool import Spool
 from .tables import MOST_CHUNKS
@@ -139,6 +139,8 @@ class Reader:
     def read(self, part: Held) -> Outcome:
         """Reads a part whole."""
         outcome = Outcome(part)
+        from .short_files import reads_together
+
         left = self.begin(outcome)
         for begin in range(0, len(left), TOGETHER):
             some = left[begin : begin + TOGETHER]

@@ -7,29 +7,33 @@ import os
 import sys
 import time
 from functools import partial
-from typing import Any, Callable, Dict, Iterable, Iterator, List, NamedTuple, Optional, Sequence, Set
+from importlib import import_module
+from itertools import islice
+from typing import TYPE_CHECKING, Any, Callable, Dict, Iterable, Iterator, List, NamedTuple, Optional, Sequence, Set, Tuple
 
 import sqlalchemy as sa
-from sqlalchemy.dialects import postgresql, sqlite
 
 import cms_canon
 
-from .cluster import Cluster, NoCluster
-from .folders import texts_of_folder
+from .folders import FEW, LARGE, texts_of_folder
 from .opening import WORKERS_ENDING, for_others
+from .options import Options
 from .processes import Processes
 from .reading import Part
 from .store import Store
-from .tables import OF_PARTS, PARTS
+from .tables import IS_TO_DO, OF_PARTS, PARTS, insertion
 from .texts import path_text_of, text_of
 from .versions import own_version
 from .watching import Counts, State, Watch, counts_in, state_of
-from .working import Options, Worker
+from .working import Worker
+
+if TYPE_CHECKING:
+    from .cluster import Cluster, NoCluster
 
 ROWS_TOGETHER = 4000  # rows of lines that are stored in one transaction
 MOST_SECONDS = 2.0  # after which they are stored, however few they are
-
-
+_MOST_COUNTED = 10_000  # parts: no machine begins more workers
+_READERS = (f"{__package__}.short_files", "cms_canon.verifier")  # what nearly every file needs that is read
 _POLLED = 1.0  # seconds between two looks at the store
 _TENDED = 0.5  # seconds between two looks at the processes of this machine, if none ends
 _GRACE = 10.0  # seconds without any worker after which a cluster is asked to begin again
@@ -42,20 +46,22 @@ Show = Callable[[State, Counts], None]  # shows where an index is, and what was 
 # ---- what is to be done
 
 
-def put_in(store: Store, tops: Sequence[str], anew: bool = False, verifies: bool = False) -> None:
-    """Has the parts of these folders and files done, and done again if they are done or being done."""
+def put_in(store: Store, tops: Sequence[str], anew: bool = False, verifies: bool = False) -> int:
+    """Has the parts of these folders and files done, and done again if they are done or being done. Returns how many are to be done, if they are few."""
     how = {"anew": anew, "verifies": verifies}
 
-    def put() -> None:
+    def put() -> int:
         with store.engine.begin() as connection:
             if store.is_sqlite:
                 connection.exec_driver_sql("BEGIN IMMEDIATE")
             for top in tops:
                 _put_top(connection, top, os.path.isdir(top), how)
+            some = sa.select(PARTS.c.id).where(IS_TO_DO).limit(_MOST_COUNTED).subquery()
+            return int(connection.execute(sa.select(sa.func.count()).select_from(some)).scalar_one())
 
-    store.tried(put)
-    store.note(own_version().noted())
-    store.note_paths(map(_noted, tops))
+    to_do = store.tried(put)
+    store.note_paths(map(_noted, tops), own_version().noted())
+    return to_do
 
 
 def _noted(top: str) -> str:
@@ -66,9 +72,8 @@ def _noted(top: str) -> str:
 def _put_top(connection: sa.engine.Connection, top: str, is_folder: bool, how: Dict[str, bool]) -> None:
     folder, whole = texts_of_folder(top if is_folder else os.path.dirname(top))
     name = "" if is_folder else text_of(os.path.basename(top))
-    insert = postgresql.insert if connection.dialect.name == "postgresql" else sqlite.insert
     part = {"path": folder, "name": name, "whole": whole, "top": len(whole or folder)}
-    connection.execute(insert(PARTS).values(**part).on_conflict_do_nothing(index_elements=["path", "name", "chunk"]))
+    connection.execute(insertion(PARTS, connection.dialect.name).values(**part).on_conflict_do_nothing(index_elements=["path", "name", "chunk"]))
     own = PARTS.c.path == folder
     is_inside = (PARTS.c.path >= folder) & (PARTS.c.path < folder[:-1] + "0") if is_folder else own & (PARTS.c.name == name)
     again = {"state": sa.case((PARTS.c.state == 1, 1), else_=0), "again": PARTS.c.state == 1, "tries": sa.case((PARTS.c.state == 1, PARTS.c.tries), else_=0)}
@@ -91,12 +96,13 @@ class Done(NamedTuple):
 
 
 def finish(store: Store, tops: Iterable[str], before: Counts) -> Done:
-    """Makes what is made when all parts are done, and returns what was done since."""
+    """Makes what is made when all parts are done, closes the store, and returns what was done since."""
     store.finish()
     _let_go(store)
     store.note_index(map(_noted, tops), cms_canon.__version__)
     with store.engine.connect() as connection:
         counts = counts_in(connection).since(before)
+    store.close()  # or SQLite would leave its log beside it
     return Done(counts.files, counts.unchanged, counts.gone)
 
 
@@ -118,16 +124,15 @@ def index(store: Store, plan: Plan, line_of: Callable[[Exception], Optional[str]
     Killed at any moment, it goes on from there when it is called again. `line_of` says an error of a worker in a line.
     """
     watch = Watch(store.url, store.wait)
-    cluster = Cluster(plan.scheduler) if plan.scheduler else None
-    if cluster is not None:
-        cluster.check()
-    before = watch.asked(counts_in)
-    put_in(store, plan.tops, plan.anew, plan.verifies)
+    cluster = _cluster_of(plan.scheduler) if plan.scheduler else None
+    with store.engine.connect() as connection:
+        before = counts_in(connection)
+    to_do = put_in(store, plan.tops, plan.anew, plan.verifies)
     store.close()  # or processes begun now would have its connections
     if cluster is not None:
         _by_cluster(watch, cluster, plan, partial(show_since, show, before))
     elif plan.jobs:
-        _by_processes(watch, store, plan, line_of, partial(show_since, show, before))
+        _by_processes(watch, plan, to_do, line_of, partial(show_since, show, before))
     else:
         _by_others(watch, plan, partial(show_since, show, before))
     return finish(store, plan.tops, before)
@@ -143,9 +148,45 @@ def work(url: Any, options: Options) -> None:
     Worker(url, options).run()
 
 
-def _by_processes(watch: Watch, store: Store, plan: Plan, line_of: Callable[[Exception], Optional[str]], show: Callable[[State], None]) -> None:
-    with Processes(plan.jobs, partial(work, store.url, plan.options), line_of, plan.options.patience) as processes:
+def _by_processes(watch: Watch, plan: Plan, to_do: int, line_of: Callable[[Exception], Optional[str]], show: Callable[[State], None]) -> None:
+    """Has processes work, but no more than there are parts to be done, as far as can be seen before any works."""
+    parts, has_files = _seen_in(plan.tops, plan.jobs + 1)  # or one process alone would look into no folder
+    if has_files:
+        import_readers()
+    jobs = min(plan.jobs, max(to_do, parts))
+    with Processes(jobs, partial(work, watch.url, plan.options), line_of, plan.options.patience) as processes:
         tend(processes, watch, show)
+
+
+def _seen_in(tops: Sequence[str], most: int) -> Tuple[int, bool]:
+    """Returns how many parts there are in folders and files, or `most` if there may be as many, and whether there are files.
+
+    Workers wait for this, so it looks no further than it has to.
+    """
+    parts, files, left = 0, 0, list(tops)
+    try:
+        while left and parts + len(left) < most and files <= FEW:
+            path = left.pop()
+            parts += 1
+            if not os.path.isdir(path):
+                files += 1
+                continue
+            with os.scandir(path) as found:
+                for entry in islice(found, FEW + 1):
+                    if entry.is_dir(follow_symlinks=False):
+                        left.append(entry.path)
+                    else:
+                        files += 1
+                        parts += entry.stat(follow_symlinks=False).st_size > LARGE
+    except OSError:  # of what is gone meanwhile, or cannot be looked at
+        return most, True
+    return (most, True) if left or files > FEW else (parts, files > 0)
+
+
+def import_readers() -> None:
+    """Imports what reads files in the process from which workers are forked: each of them would take the time for it by itself."""
+    for name in _READERS:
+        import_module(name)
 
 
 def tend(processes: Processes, watch: Watch, show: Callable[[State], None]) -> None:
@@ -178,8 +219,19 @@ def _states(watch: Watch, patience: float, show: Callable[[State], None]) -> Ite
         time.sleep(_POLLED)
 
 
+def _cluster_of(address: str) -> Cluster:
+    """Returns the cluster of a scheduler. Raises `NoCluster` if it cannot work."""
+    from .cluster import Cluster
+
+    cluster = Cluster(address)
+    cluster.check()
+    return cluster
+
+
 def _by_cluster(watch: Watch, cluster: Cluster, plan: Plan, show: Callable[[State], None]) -> None:
     """Has the workers of a cluster work. If there is none any more, they are begun again, and if that fails, it is said."""
+    from .cluster import NoCluster
+
     words = ["work", "--store", for_others(watch.url), "--together", str(plan.options.together), "--idle-timeout", str(plan.options.patience)]
     seen, asked = time.monotonic(), 0.0
     beginnings, done = 0, -1
@@ -201,6 +253,8 @@ def _by_cluster(watch: Watch, cluster: Cluster, plan: Plan, show: Callable[[Stat
 
 def _failure(cluster: Cluster, words: List[str], is_idle: bool) -> Optional[NoCluster]:
     """Has workers begin that came since, or all of them if none works any more. Returns why they cannot."""
+    from .cluster import NoCluster
+
     if is_idle:
         cluster.forget()
     try:

@@ -12,13 +12,11 @@ import hashlib
 import warnings
 from functools import lru_cache
 from itertools import islice
-from typing import AbstractSet, Dict, FrozenSet, Iterable, Iterator, List, NamedTuple, Optional, Sequence, Tuple
-
-from cryptography import x509
-from cryptography.hazmat.primitives.asymmetric import dsa, ec, rsa
+from typing import TYPE_CHECKING, AbstractSet, Dict, FrozenSet, Iterable, Iterator, List, NamedTuple, Optional, Sequence, Tuple
 
 import cms_canon
-from cms_canon import _facts, verifier
+from cms_canon import _facts
+from cms_canon._elements import elements_of
 from cms_canon._facts import facts_of, token_facts_of
 from cms_canon._names import NAMES
 from cms_canon._rows import dotted
@@ -27,6 +25,10 @@ from .containers.found import GOOD, Class, Content, Found, State, digest_of
 from .containers.packed import why_of
 from .containers.sources import Ended
 from .texts import text_of
+
+if TYPE_CHECKING:
+    from cms_canon import verifier
+    from cryptography import x509
 
 MOST_LISTED = 1000  # signers, tokens or findings of one message that are recorded
 SHORT = 1 << 13  # octets of a certificate of which is kept what it says
@@ -137,6 +139,8 @@ _NO_CERTIFICATE = _Certificate(b"", 0, None)
 
 
 def _key_of(certificate: x509.Certificate) -> Tuple[Optional[str], Optional[int]]:
+    from cryptography.hazmat.primitives.asymmetric import dsa, ec, rsa
+
     key = certificate.public_key()
     if isinstance(key, rsa.RSAPublicKey):
         return "RSA", key.key_size
@@ -168,6 +172,9 @@ def _key_identifier(certificate: verifier._Certificate) -> Optional[bytes]:
 
 
 def _read_certificate(octets: bytes) -> Optional[_Certificate]:
+    from cms_canon import verifier
+    from cryptography import x509
+
     try:
         known = verifier._certificate(octets)
     except ValueError:
@@ -218,7 +225,7 @@ def _name_of(contents: bytes) -> str:
 def _one(octets: bytes) -> Optional[Tuple[int, bytes]]:
     """Returns the identifier and the contents of the one element in DER; None if it is not one."""
     try:
-        (element,) = verifier._elements(octets)
+        (element,) = elements_of(octets)
     except ValueError:
         return None
     return element.identifier, element.contents
@@ -408,6 +415,8 @@ _NOT_VERIFIED = _Verified()
 
 def _verified(octets: bytes, facts: _facts.Facts, content: Optional[Content]) -> _Verified:
     """Verifies the signatures. If the content itself is signed and is not there, or too long to be handed over, nothing is known."""
+    from cms_canon import verifier
+
     own = _signers_of_content(facts)
     given = None
     if facts.content is None and own:

@@ -65,7 +65,7 @@ def migrate(connection: sa.engine.Connection) -> None:
         connection.execute(sa.schema.CreateTable(table, if_not_exists=True))
         for index in sorted(table.indexes, key=lambda it: str(it.name)):
             if index.name != "places_by_digest":  # which is made when the first rows are all there
-                index.create(connection, checkfirst=True)
+                _make_index(connection, index)
     if before:
         _take_over(connection)
     _make_views(connection)
@@ -73,6 +73,13 @@ def migrate(connection: sa.engine.Connection) -> None:
         guards.put_up(connection)
     connection.execute(sa.delete(ABOUT))
     connection.execute(sa.insert(ABOUT), [{"name": "schema", "value": str(SCHEMA)}])
+
+
+def _make_index(connection: sa.engine.Connection, index: sa.Index) -> None:
+    """Makes an index. It is of the same rows in PostgreSQL as in SQLite: if its table said so, the dialect would be imported for each store."""
+    if connection.dialect.name == "postgresql":
+        index.dialect_kwargs["postgresql_where"] = index.dialect_kwargs.get("sqlite_where")
+    connection.execute(sa.schema.CreateIndex(index, if_not_exists=True))
 
 
 def _make_views(connection: sa.engine.Connection) -> None:

@@ -8,13 +8,15 @@ from typing import Any, Dict, Optional, Set
 import sqlalchemy as sa
 from sqlalchemy.exc import ArgumentError, NoSuchModuleError
 
+from .faults import Complaint
+
 WORKERS_ENDING = "-workers"  # of the file in which workers on SQLite have their locks
 WAITED = 5.0  # seconds for a store that another command uses
 _KEPT_ALIVE = {"keepalives_idle": 10, "keepalives_interval": 5, "keepalives_count": 3, "connect_timeout": 10}
 _CANNOT_BE_READ = "the store is named by no URL that can be read"
 
 
-class NoStore(Exception):
+class NoStore(Complaint):
     """There is no store to be asked."""
 
 

@@ -3,6 +3,7 @@
 from __future__ import annotations
 
 import ctypes
+import gc
 import os
 import signal
 import sys
@@ -12,12 +13,14 @@ from multiprocessing import get_context
 from multiprocessing.connection import Connection, wait
 from typing import Any, Callable, Iterator, List, Optional
 
+from .faults import Complaint
+
 PR_SET_PDEATHSIG = 1  # of Linux: prctl(2)
 MOST_DEATHS = 20  # of processes one after another, of which none did anything
 _SECONDS_TO_END = 5.0  # for a process to give back what it has begun, before it is killed
 
 
-class Failed(Exception):
+class Failed(Complaint):
     """A process ended with an error, which this says in a line."""
 
 
@@ -124,6 +127,7 @@ class Processes:
         self._processes: List[_Process] = []
 
     def __enter__(self) -> Processes:
+        gc.freeze()  # or each process would look through the modules again and again, and so copy them
         self._processes = [self._begin() for _ in range(self._jobs)]
         return self
 

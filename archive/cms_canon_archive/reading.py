@@ -9,25 +9,20 @@ from __future__ import annotations
 import os
 import time
 from dataclasses import replace
-from typing import Any, Callable, Dict, Iterable, Iterator, List, NamedTuple, Optional, Sequence, Tuple, TypeVar
+from typing import Any, Dict, Iterable, Iterator, List, NamedTuple, Optional, Sequence, Tuple
 
 import cms_canon
-from cms_canon._facts import Facts as MessageFacts
-from cms_canon._facts import facts_of
 
 from .containers import armour
 from .containers.armour import wanted_by
-from .containers.files import Unreadable, found_in_path, short, with_beside
-from .containers.finder import opened_alone, seen_alone
 from .containers.found import Class, Content, Found, Octets
 from .containers.packed import ENDINGS, PACKINGS, name_inside, why_of
-from .containers.sources import DEEPEST, Ended, Source, TooMuch
+from .containers.sources import DEEPEST, TooMuch
 from .judging import Facts, Signer, Time, judged
 from .texts import path_text_of, text_of
 
 Row = Dict[str, Any]  # of a store, or a line of `rows`
 Values = Tuple[Any, ...]
-T = TypeVar("T")
 
 READER = 5  # raised with each change of the command or the library by which a file would get other rows, and with no other
 MOST = (1 << 63) - 1  # the largest number that a store takes
@@ -143,7 +138,7 @@ class _Metered:
         self._left[0] -= octets
 
 
-def _metered(found: Found, content: Content, path: str, left: List[int]) -> Found:
+def metered(found: Found, content: Content, path: str, left: List[int]) -> Found:
     """Returns the same, but if its content is the file that lies beside the one of this path, no more of that is read than is left."""
     if not (name := os.path.basename(wanted_beside(path))) or content.where != name:
         return found
@@ -220,17 +215,19 @@ def unread(entry: Entry, error: str) -> Found:
     return Found("", "file", Class.UNREADABLE, entry.size, note=error)
 
 
-def _absent_beside(entry: Entry) -> str:
+def absent_beside(entry: Entry) -> str:
     """Returns the path of the file that one may sign, if that was not there when its folder was listed: if it came since, the file is read again."""
     return "" if entry.beside else wanted_beside(entry.path)
 
 
 def found_in_entry(entry: Entry) -> Iterator[Found]:
     """Gives what is found in a file, and last the file itself."""
+    from .containers.files import Unreadable, found_in_path
+
     left = [MOST_BESIDE]
     try:
-        for it in found_in_path(entry.path, _absent_beside(entry)):
-            yield it if it.content is None else _metered(it, it.content, entry.path, left)
+        for it in found_in_path(entry.path, absent_beside(entry)):
+            yield it if it.content is None else metered(it, it.content, entry.path, left)
     except MemoryError:
         yield unread(entry, "out of memory")
     except (OSError, Unreadable) as error:
@@ -241,55 +238,6 @@ def reads_of(entry: Entry, verifies: bool = False) -> Iterator[Read]:
     """Reads a file, and gives what is to be stored of each place in it, the file itself last."""
     for it in found_in_entry(entry):
         yield read_of(entry, it, verifies)
-
-
-# ---- short files in which nothing else lies
-
-
-class _Seen(NamedTuple):
-    """A short file, and what it seems to be."""
-
-    source: Source
-    place: Found
-
-
-def reads_together(entries: Sequence[Entry], verifies: bool = False) -> List[Optional[Read]]:
-    """Reads short files in which nothing else lies, as most are, in three steps of which each is done for all of them: so its code stays in the caches
-    of the processor, which takes a quarter less time. For any other file, and one that cannot be read, there is None: `reads_of` reads it.
-    """
-    seen = [_tried(_seen, it) for it in entries]
-    facts = [None if it is None else _tried(_facts_of, it, entry) for it, entry in zip(seen, entries)]
-    return [None if it is None else _tried(_read_alone, it, entry, said, verifies) for it, entry, said in zip(seen, entries, facts)]
-
-
-def _tried(do: Callable[..., Optional[T]], *words: object) -> Optional[T]:
-    """Returns None too if that fails, as `reads_of` will say."""
-    try:
-        return do(*words)
-    except (OSError, Ended, MemoryError, cms_canon.Refused):
-        return None
-
-
-def _seen(entry: Entry) -> Optional[_Seen]:
-    source = short(entry.path)
-    place = None if source is None else seen_alone(source)
-    return None if source is None or place is None else _Seen(source, place)
-
-
-def _facts_of(seen: _Seen, entry: Entry) -> Optional[MessageFacts]:
-    """Returns what a message says, and what is found in it if there is nothing beside it that it may cover."""
-    place = seen.place
-    return None if place.what is not Class.MESSAGE or place.octets is None else facts_of(place.octets, checks=not entry.beside)
-
-
-def _read_alone(seen: _Seen, entry: Entry, facts: Optional[MessageFacts], verifies: bool) -> Optional[Read]:
-    place: Optional[Found] = seen.place
-    if seen.place.what is Class.MESSAGE:
-        place = opened_alone(seen.place, seen.source, facts)
-    if place is None:
-        return None
-    place = with_beside(place, _absent_beside(entry))
-    return read_of(entry, place if place.content is None else _metered(place, place.content, entry.path, [MOST_BESIDE]), verifies)
 
 
 # ---- rows as lines

@@ -17,7 +17,7 @@ from threading import Event, Lock, Thread
 from typing import Any, Dict, Iterator, List, NamedTuple, Optional, Sequence, Set, Tuple
 
 import sqlalchemy as sa
-from sqlalchemy.dialects import postgresql, sqlite
+from sqlalchemy.dialects import sqlite
 from sqlalchemy.exc import DBAPIError
 
 from .containers.found import Class
@@ -389,6 +389,8 @@ class Session:
                 connection.execute(sa.delete(table).where(table.c.part == outcome.part.id, table.c.file.in_(some)))
 
     def _add_parts(self, connection: sa.engine.Connection, new: List[New]) -> None:
+        if not self._is_sqlite:
+            from sqlalchemy.dialects import postgresql
         insert = sqlite.insert if self._is_sqlite else postgresql.insert
         statement = insert(PARTS).on_conflict_do_nothing(index_elements=["path", "name", "chunk"])
         step = 1000

@@ -16,7 +16,6 @@ from itertools import groupby
 from typing import Any, Callable, Dict, Iterable, Iterator, List, Optional, Sequence, Set, Tuple, TypeVar
 
 import sqlalchemy as sa
-from sqlalchemy.dialects import postgresql, sqlite
 from sqlalchemy.exc import DBAPIError
 
 from .containers.found import Class
@@ -24,7 +23,7 @@ from .migrating import WrongVersion, alone, migrate, newer, version_in
 from .opening import NoIndex, NoStore, engine_of, is_sqlite, is_writable, own_files, url_of, without_password
 from .reading import MOST, Part, Row
 from .tables import ABOUT, ALLOWED, BY_DIGEST, FILES, LISTS, MOST_OF_A_KEY, NOT_NEGATIVE, OF_PARTS, PARTS, PLACES, REASONS, SCHEMA, SIGNERS, TIMES
-from .tables import Digest, PartState, columns_of, is_digest
+from .tables import Digest, PartState, columns_of, insertion, is_digest
 from .texts import chunk_of, folder_and_name
 
 __all__ = ["FILES", "SIGNERS", "TIMES", "NoStore", "Store", "is_row", "url_of", "without_password"]
@@ -105,7 +104,7 @@ def is_row(row: object) -> bool:
 def _insertion(table: sa.Table, dialect: Any) -> Any:
     """Returns the statement that stores rows, each in place of what is stored under its name."""
     keys = [it.name for it in table.primary_key.columns]
-    stored = {"postgresql": postgresql.insert, "sqlite": sqlite.insert}[dialect.name](table)
+    stored = insertion(table, dialect.name)
     others = {it.name: stored.excluded[it.name] for it in table.columns if it.name not in keys}
     return stored.on_conflict_do_update(index_elements=keys, set_=others)
 
@@ -198,13 +197,12 @@ class Store:
 
     def note_index(self, paths: Iterable[str], library: str) -> None:
         """Notes that these paths were indexed now, by this version."""
-        self.note_paths(paths)
         now = datetime.now(timezone.utc).strftime("%Y-%m-%d %H:%M UTC")
-        self.note({"host": socket.gethostname(), "indexed": now, "library": library})
+        self.note_paths(paths, {"host": socket.gethostname(), "indexed": now, "library": library})
 
-    def note_paths(self, paths: Iterable[str]) -> None:
-        """Notes that these paths are indexed, or were."""
-        self.note({"paths": json.dumps(sorted({*self.paths(), *paths})[:MOST_PATHS])})
+    def note_paths(self, paths: Iterable[str], noted: Dict[str, str]) -> None:
+        """Notes that these paths are indexed, or were, and what else is to be said of the store."""
+        self.note({"paths": json.dumps(sorted({*self.paths(), *paths})[:MOST_PATHS]), **noted})
 
     # ---- what is stored
 
@@ -240,7 +238,7 @@ class Store:
     def finish(self) -> None:
         """Makes the index of digests if it is not there: with millions of rows, to add to it for each row takes most of the time."""
         with alone(self.engine) as connection:
-            BY_DIGEST.create(connection, checkfirst=True)
+            connection.execute(sa.schema.CreateIndex(BY_DIGEST, if_not_exists=True))
         if self.is_sqlite:
             with self.engine.connect() as connection:
                 connection.exec_driver_sql("PRAGMA wal_checkpoint(TRUNCATE)")  # so that the file alone can be copied

@@ -14,6 +14,7 @@ from enum import IntEnum
 from typing import Any, Dict, Iterable, List, Optional, Tuple
 
 import sqlalchemy as sa
+from sqlalchemy.dialects import sqlite
 from sqlalchemy.ext.compiler import compiles
 
 from cms_canon._texts import REFUSALS
@@ -126,7 +127,7 @@ PARTS = sa.Table(
 PARTS.append_constraint(sa.CheckConstraint(_Plain([PARTS.c.path, PARTS.c.name, PARTS.c.whole]), name="parts_plain"))
 IS_TO_DO, IS_TAKEN, _, IS_GIVEN_UP = (PARTS.c.state == sa.literal_column(str(int(it))) for it in PartState)  # or SQLite takes no index for it
 for _name, _column, _where in (("to_do", "id", IS_TO_DO), ("taken", "holder", IS_TAKEN), ("given_up", "id", IS_GIVEN_UP)):
-    sa.Index(f"parts_{_name}", PARTS.c[_column], postgresql_where=_where, sqlite_where=_where)
+    sa.Index(f"parts_{_name}", PARTS.c[_column], sqlite_where=_where)
 
 WORKERS = sa.Table(
     "workers",
@@ -212,6 +213,15 @@ LISTS = {"signed_by": PLACE_SIGNERS, "times": PLACE_TIMES}  # the lists of a row
 KEYS = tuple(it.name for it in _keys())
 OF_PARTS = (PLACES, PLACE_SIGNERS, PLACE_TIMES)
 BY_DIGEST = sa.Index("places_by_digest", PLACES.c.digest)
+
+
+def insertion(table: sa.Table, dialect: str) -> Any:
+    """Returns the statement that adds rows in a dialect, and can say what becomes of one whose key is there."""
+    if dialect == "postgresql":
+        from sqlalchemy.dialects import postgresql  # which a store in a file does not need
+
+        return postgresql.insert(table)
+    return sqlite.insert(table)
 
 
 def columns_of(table: sa.Table) -> List[sa.Column]:

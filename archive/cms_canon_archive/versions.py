@@ -13,6 +13,7 @@ from typing import Dict, Mapping, NamedTuple
 
 import cms_canon
 
+from .faults import Complaint
 from .reading import READER
 from .tables import SCHEMA
 
@@ -43,7 +44,7 @@ def version_noted(about: Mapping[str, str]) -> Version:
     return Version(*(about.get(ABOUT_NAMES[name], "") for name in Version._fields))
 
 
-class OtherVersion(Exception):
+class OtherVersion(Complaint):
     """A worker is of another version than the store is worked on by."""
 
     def __init__(self, own: Version, wanted: Version) -> None:

@@ -2,9 +2,8 @@
 
 from __future__ import annotations
 
-import gc
 import time
-from typing import Callable, List, NamedTuple, Optional, Sequence
+from typing import Callable, List, Optional, Sequence
 
 import sqlalchemy as sa
 from sqlalchemy.exc import DataError, DBAPIError, IntegrityError
@@ -12,24 +11,14 @@ from sqlalchemy.exc import DataError, DBAPIError, IntegrityError
 from .containers.packed import why_of
 from .folders import KILLED, REFUSED, Reader, path_of
 from .opening import own_files
+from .options import Options
 from .reading import Entry
 from .sessions import AT_ONCE, NOTHING, Held, Outcome, Session, Superseded, is_lost
 from .spool import Spool
 
-TOGETHER = 5000  # files that are stored in one transaction
 MOST_TRIES = 4  # of a part, or of a file if each is stored by itself
-PATIENCE = 60.0  # seconds after which a worker that says nothing has lost its parts, or a database that does not reply is given up
 _PASSING = ("40P01", "40001", "55P03")  # a deadlock, another order of transactions, a lock that was waited for too long
 _SHORTEST_WAIT, _LONGEST_WAIT = 0.01, 0.5  # seconds for parts that others may find
-
-
-class Options(NamedTuple):
-    """How a worker works."""
-
-    together: int = TOGETHER
-    patience: float = PATIENCE
-    stays: float = 0.0
-    """Seconds to wait for parts if none is left."""
 
 
 class Worker:
@@ -47,8 +36,6 @@ class Worker:
     def run(self) -> None:
         """Works until no part is left. A session that is lost is begun again, as long as the database replies in time."""
         wait = _SHORTEST_WAIT
-        gc.collect()
-        gc.freeze()  # or the modules would be looked through again and again
         try:
             while True:
                 try:

@@ -24,6 +24,7 @@ from cases import Maker
 from counting import count_if, needs
 from making import write_files, zipped
 from odd_pdfs import PLAIN, laid_out
+from processor import slowness
 from running import environment_of
 
 pytestmark = [pytest.mark.archive, needs("cryptography", tools=["openssl"])]
@@ -33,7 +34,6 @@ MEMORY = 64 << 20
 SLOWEST = 2 / 10e6  # seconds an octet
 OF_A_MESSAGE = 0.3e-3  # seconds
 LEAST = 2  # seconds that any container may take
-REFERENCE = 0.2  # seconds that the loop of `slowness` takes on the processor for which these are said
 MANIFEST = "META-INF/MANIFEST.MF"
 READING = r"""
 import importlib, importlib.util, json, re, sys, time
@@ -200,14 +200,6 @@ def costs(home: Path, paths: List[Path]) -> List[list]:
         assert ran.returncode == 0, ran.stderr[-800:]
         lines.append(json.loads(ran.stdout))
     return lines
-
-
-def slowness() -> float:
-    """Returns how many times slower this processor is now than that for which the limits are said, as one that is shared; at least 1."""
-    begun, number = time.process_time(), 0
-    for turn in range(2_000_000):
-        number = (number * 31 + turn) & 0xFFFFFFFF
-    return max(1.0, (time.process_time() - begun) / REFERENCE)
 
 
 def most_seconds(octets: int, messages: int, slower: float) -> float:

@@ -301,7 +301,7 @@ def test_no_workers(case):
     """A cluster that has no workers, or is not there, is said in a line within five seconds, beside what Python takes for the modules."""
     url = case.store("PostgreSQL")
     began = time.monotonic()
-    modules = [sys.executable, "-c", "import distributed, cms_canon_archive.command"]
+    modules = [sys.executable, "-c", "import distributed, cms_canon_archive.cluster, cms_canon_archive.indexing"]
     subprocess.run(modules, env=environment_of(case.home), check=True, timeout=DEADLINE)
     start = time.monotonic() - began
     with dask_cluster.cluster(case.home, environment_of(case.home)) as made:

@@ -114,7 +114,7 @@ def test_questions(home, archive, folder, place):
     # In tables a character that turns the direction of writing is written out, and a cell of CSV is no formula.
     said = command(home, "check", "--all", "--store", "asked.db", status=1)
     count_if("direction of writing", "=formula\\u202e.p7s" in said and "\u202e" not in said, said)
-    cells = [archive.command._cell_of_csv(it) for it in ("=1+1", "+1", "-1", "@a", "a\u202e", None, 5)]
+    cells = [archive.writing.cell_of_csv(it) for it in ("=1+1", "+1", "-1", "@a", "a\u202e", None, 5)]
     count_same("cells of CSV", cells, ["'=1+1", "'+1", "'-1", "'@a", "a\\u202e", "", "5"])
 
 

@@ -47,6 +47,7 @@ from cryptography.hazmat.primitives.serialization import Encoding, PublicFormat,
 
 from cms_canon import AlgorithmIdentifier, Job, Message, Octets, Verifier
 from cms_canon._calls import octets_of
+from cms_canon._elements import Element, elements_of
 from cms_canon._rows import dotted
 
 __all__ = ["by_certificates"]
@@ -144,48 +145,23 @@ def by_certificates(
 # ---- DER
 
 
-class _Element(NamedTuple):
-    identifier: int
-    contents: bytes
-    octets: bytes
-
-
-def _elements(octets: bytes) -> Iterator[_Element]:
-    """The elements in DER, one after another, whose identifiers are one octet. Raises `ValueError` if that is not what they are."""
-    at = 0
-    while at < len(octets):
-        identifier, length = octets[at : at + 2]
-        begin = at + 2
-        if length >= 0x80:
-            begin += length - 0x80
-            digits = octets[at + 2 : begin]
-            length = int.from_bytes(digits, "big")
-            if length < 0x80 or digits[0] == 0:
-                raise ValueError("not a length in DER")
-        end = begin + length
-        if identifier & 0x1F == 0x1F or end > len(octets):
-            raise ValueError("not an element in DER")
-        yield _Element(identifier, octets[begin:end], octets[at:end])
-        at = end
-
-
-def _members(octets: bytes, most: int, identifiers: bytes) -> List[_Element]:
+def _members(octets: bytes, most: int, identifiers: bytes) -> List[Element]:
     """The members of the one SEQUENCE in DER: at most so many, since millions of small ones would take much memory, and with
     identifiers that match this pattern."""
-    (sequence,) = _elements(octets)
-    found = [*islice(_elements(_checked(sequence, 0x30).contents), most + 1)]
+    (sequence,) = elements_of(octets)
+    found = [*islice(elements_of(_checked(sequence, 0x30).contents), most + 1)]
     if not re.fullmatch(identifiers, bytes(it.identifier for it in found), re.DOTALL):
         raise ValueError("other members are due")
     return found
 
 
-def _checked(element: _Element, identifier: int) -> _Element:
+def _checked(element: Element, identifier: int) -> Element:
     if element.identifier != identifier:
         raise ValueError("another element is due")
     return element
 
 
-def _integer(element: _Element) -> int:
+def _integer(element: Element) -> int:
     """The INTEGER, which has an octet, and whose first nine bits are not all the same (X.690, sections 8.3.1 and 8.3.2)."""
     contents = _checked(element, 0x02).contents
     if re.match(rb"\Z|\x00[\x00-\x7f]|\xff[\x80-\xff]", contents):
@@ -195,11 +171,11 @@ def _integer(element: _Element) -> int:
 
 def _whole(octets: bytes) -> int:
     """The one INTEGER in DER."""
-    (integer,) = _elements(octets)
+    (integer,) = elements_of(octets)
     return _integer(integer)
 
 
-def _oid(element: _Element) -> str:
+def _oid(element: Element) -> str:
     """The text of the OBJECT IDENTIFIER (X.690, section 8.19)."""
     contents = _checked(element, 0x06).contents
     if not re.fullmatch(rb"(?:(?:[\x81-\xff][\x80-\xff]*)?[\x00-\x7f])+", contents):
@@ -229,14 +205,14 @@ class _Certificate(NamedTuple):
         """Raises `ValueError` if an extension cannot be read, or if two are key identifiers (RFC 5280, section 4.2)."""
         if self.extensions is None:
             return None
-        (sequence,) = _elements(self.extensions)
-        found: Optional[_Element] = None
-        for extension in _elements(_checked(sequence, 0x30).contents):
+        (sequence,) = elements_of(self.extensions)
+        found: Optional[Element] = None
+        for extension in elements_of(_checked(sequence, 0x30).contents):
             identifier, value = _extension(extension.octets)
             if identifier == _SUBJECT_KEY_IDENTIFIER:
                 if found is not None:
                     raise ValueError("two key identifiers")
-                (found,) = _elements(value)
+                (found,) = elements_of(value)
         return None if found is None else _checked(found, 0x04).contents
 
 
