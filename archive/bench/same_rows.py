@@ -1,0 +1,173 @@
+#!/usr/bin/env python3
+"""Compares what two versions store of the same files of every kind, and prints each difference.
+
+    /usr/bin/python3 archive/bench/same_rows.py OLD NEW [FILES [SEED]]
+
+Each version is a commit, or a folder with a working tree. Its packages are copied, with the library of its release, and index the same folder:
+as they do by themselves, with `--verify`, and by `rows`. All columns are compared but for those that say who read a file. The exit status is 1
+if anything differs, or if nothing was compared.
+"""
+
+import json
+import os
+import shutil
+import sqlite3
+import subprocess
+import sys
+import tempfile
+import time
+from collections import Counter
+from concurrent.futures import ThreadPoolExecutor
+from pathlib import Path
+from typing import Any, Dict, Iterator, List, NamedTuple, Tuple
+
+import every_kind
+
+TOP = Path(__file__).resolve().parents[2]
+FILES, SEED = 20_000, 4057
+SHOWN = 200  # differences that are printed
+SETTLED = 2.5  # seconds after which a file is not said to have just been written
+IGNORED = {"library", "reader", "worker"}
+LIBRARY = "dist/x86_64-linux/libcms_canon.so"
+LAYOUTS = {  # the packages of a version, the first of which has the library, and the module that is called
+    "bindings/python/cms_canon": (("bindings/python/cms_canon", "archive/cms_canon_archive"), "cms_canon_archive"),
+    "python/cms_canon": (("python/cms_canon",), "cms_canon.archive"),
+}
+TABLES = {"files": ("path", "member"), "signers": ("path", "member", "number"), "times": ("path", "member", "number")}
+
+Key = Tuple[Any, ...]
+Rows = Dict[Key, Dict[str, Any]]
+
+
+class Version(NamedTuple):
+    """A copy of the packages of a version, and how its command is called."""
+
+    name: str
+    home: Path
+    module: str
+
+    def call(self, *words: object, **how: Any) -> None:
+        called = [sys.executable, "-m", f"{self.module}.command", *map(str, words)]
+        subprocess.run(called, cwd=self.home, env={**os.environ, "PYTHONPATH": str(self.home)}, stderr=subprocess.DEVNULL, check=True, **how)
+
+
+def copied(name: str, home: Path) -> Version:
+    """Copies the packages of a commit, or of a folder."""
+    home.mkdir()
+    top = Path(name)
+    if not top.is_dir():
+        top = home / "tree"
+        top.mkdir()
+        written = subprocess.run(["git", "-C", TOP, "archive", name], stdout=subprocess.PIPE, check=True)
+        subprocess.run(["tar", "-x", "-C", top], input=written.stdout, check=True)
+    packages, module = next(layout for first, layout in LAYOUTS.items() if (top / first).is_dir())
+    for package in packages:
+        shutil.copytree(top / package, home / Path(package).name, ignore=shutil.ignore_patterns("__pycache__"))
+    shutil.copy(top / LIBRARY, home / "cms_canon")
+    return Version(name, home, module)
+
+
+# ---- what is stored
+
+
+def stored_by(version: Version, folder: Path) -> Dict[str, Rows]:
+    """Returns the rows of each way to read a folder, and of each table."""
+    found: Dict[str, Rows] = {}
+    for how, words in (("index", ()), ("index --verify", ("--verify",))):
+        store = version.home / f"{len(words)}.db"
+        version.call("index", folder, "--store", store, *words)
+        found.update({f"{how}: {table}": rows for table, rows in rows_in(store).items()})
+    lines = version.home / "lines"
+    with open(lines, "wb") as file:
+        version.call("rows", folder, stdout=file)
+    return {**found, "rows": rows_of_lines(lines)}
+
+
+def rows_in(store: Path) -> Dict[str, Rows]:
+    """Returns the rows of the views of a store."""
+    found = {}
+    with sqlite3.connect(store) as connection:
+        connection.row_factory = sqlite3.Row
+        for table, keys in TABLES.items():
+            rows = map(dict, connection.execute(f"SELECT * FROM {table}"))
+            found[table] = {tuple(row[it] for it in keys): row for row in rows}
+    return found
+
+
+def rows_of_lines(lines: Path) -> Rows:
+    """Returns the lines of `rows`, each with its place among those of its file."""
+    found: Rows = {}
+    places: Counter = Counter()
+    for line in lines.read_text(errors="surrogateescape").splitlines():
+        row = json.loads(line)
+        if "end" in row:
+            found["end", ""] = row
+            continue
+        places[row["path"]] += 1
+        found[row["path"], row["member"]] = {**row, "place": places[row["path"]]}
+    return found
+
+
+# ---- what differs
+
+
+class Difference(NamedTuple):
+    """A column of a row that is other than it was. Of a row that only one version has, the column is empty."""
+
+    where: str
+    key: Key
+    column: str
+    old: Any
+    new: Any
+
+
+def differences(where: str, old: Rows, new: Rows) -> Iterator[Difference]:
+    for key in sorted({*old, *new}, key=str):
+        if key not in old or key not in new:
+            yield Difference(where, key, "", key in old, key in new)
+            continue
+        before, after = old[key], new[key]
+        for column in sorted({*before, *after} - IGNORED):
+            if before.get(column) != after.get(column) or (column in before) != (column in after):
+                yield Difference(where, key, column, before.get(column), after.get(column))
+
+
+def shown(difference: Difference, folder: Path) -> str:
+    path, *more = difference.key
+    values = ("there" if it is True else "not there" if it is False else json.dumps(it) for it in (difference.old, difference.new))
+    values = values if not difference.column else map(json.dumps, (difference.old, difference.new))
+    return "\t".join([difference.where, str(path).replace(f"{folder}/", ""), *map(str, more), difference.column or "the row", *values])
+
+
+def compare(old: Dict[str, Rows], new: Dict[str, Rows], folder: Path) -> int:
+    """Prints what differs, and returns how much does."""
+    some: List[Difference] = [it for where in old for it in differences(where, old[where], new[where])]
+    for it in some[:SHOWN]:
+        print(shown(it, folder))
+    if len(some) > SHOWN:
+        print(f"and {len(some) - SHOWN:,} more")
+    for (where, column), count in sorted(Counter((it.where, it.column or "the row") for it in some).items()):
+        print(f"{where}: {column} differs {count:,} times")
+    return len(some)
+
+
+def main(words: List[str]) -> int:
+    old_name, new_name, *numbers = words
+    count, seed = (int(numbers[it]) if len(numbers) > it else other for it, other in enumerate((FILES, SEED)))
+    with tempfile.TemporaryDirectory(prefix="same-rows-") as home:
+        folder = Path(home) / "files"
+        folder.mkdir()
+        versions = [copied(name, Path(home) / kind) for kind, name in (("old", old_name), ("new", new_name))]
+        made = every_kind.make_archive(folder, Path(home) / "made", count, seed)
+        print(f"seed {seed}: {sum(made.values()):,} files; {', '.join(f'{number:,} of {name}' for name, number in made.items())}", flush=True)
+        time.sleep(SETTLED)
+        with ThreadPoolExecutor() as threads:
+            old, new = threads.map(lambda it: stored_by(it, folder), versions)
+        differing = compare(old, new, folder)
+        rows = {where: len(it) for where, it in old.items()}
+    print(f"{old_name} and {new_name}: {differing:,} differences among {sum(rows.values()):,} rows: {', '.join(f'{n:,} of {it}' for it, n in rows.items())}")
+    return 1 if differing or not min(rows.values()) else 0
+
+
+if __name__ == "__main__":
+    sys.exit(main(sys.argv[1:]))
