@@ -10,6 +10,7 @@ if anything differs, or if nothing was compared.
 
 import json
 import os
+import re
 import shutil
 import sqlite3
 import subprocess
@@ -25,7 +26,8 @@ import every_kind
 
 TOP = Path(__file__).resolve().parents[2]
 FILES, SEED = 20_000, 4057
-SHOWN = 200  # differences that are printed
+SHOWN, KINDS_SHOWN = 200, 400  # differences that are printed, and kinds of them
+LONGEST_SHOWN = 120  # characters of a value
 SETTLED = 2.5  # seconds after which a file is not said to have just been written
 IGNORED = {"library", "reader", "worker"}
 LIBRARY = "dist/x86_64-linux/libcms_canon.so"
@@ -54,17 +56,24 @@ class Version(NamedTuple):
 def copied(name: str, home: Path) -> Version:
     """Copies the packages of a commit, or of a folder."""
     home.mkdir()
+    packages, module = next(layout for first, layout in LAYOUTS.items() if has(name, first))
     top = Path(name)
     if not top.is_dir():
         top = home / "tree"
         top.mkdir()
-        written = subprocess.run(["git", "-C", TOP, "archive", name], stdout=subprocess.PIPE, check=True)
+        written = subprocess.run(["git", "-C", TOP, "archive", name, LIBRARY, *packages], stdout=subprocess.PIPE, check=True)
         subprocess.run(["tar", "-x", "-C", top], input=written.stdout, check=True)
-    packages, module = next(layout for first, layout in LAYOUTS.items() if (top / first).is_dir())
     for package in packages:
         shutil.copytree(top / package, home / Path(package).name, ignore=shutil.ignore_patterns("__pycache__"))
     shutil.copy(top / LIBRARY, home / "cms_canon")
     return Version(name, home, module)
+
+
+def has(name: str, folder: str) -> bool:
+    """Whether a commit or a folder has a folder."""
+    if Path(name).is_dir():
+        return (Path(name) / folder).is_dir()
+    return subprocess.run(["git", "-C", TOP, "cat-file", "-e", f"{name}:{folder}"], stderr=subprocess.DEVNULL).returncode == 0
 
 
 # ---- what is stored
@@ -134,13 +143,21 @@ def differences(where: str, old: Rows, new: Rows) -> Iterator[Difference]:
 
 def shown(difference: Difference, folder: Path) -> str:
     path, *more = difference.key
-    values = ("there" if it is True else "not there" if it is False else json.dumps(it) for it in (difference.old, difference.new))
-    values = values if not difference.column else map(json.dumps, (difference.old, difference.new))
+    values = map(json.dumps, (difference.old, difference.new)) if difference.column else (("not there", "there")[it] for it in (difference.old, difference.new))
     return "\t".join([difference.where, str(path).replace(f"{folder}/", ""), *map(str, more), difference.column or "the row", *values])
 
 
+def kind_of(difference: Difference) -> str:
+    """Returns what differs without the numbers in it, so that alike differences are counted together."""
+    where, _, column, *values = difference
+    if not column:
+        return f"{where}: a row that only {'OLD' if difference.old else 'NEW'} has"
+    texts = (it if it is None else re.sub("[0-9]+", "N", json.dumps(it))[:LONGEST_SHOWN] for it in values)
+    return f"{where}: {column}: {' -> '.join(map(str, texts))}"
+
+
 def compare(old: Dict[str, Rows], new: Dict[str, Rows], folder: Path) -> int:
-    """Prints what differs, and returns how much does."""
+    """Prints what differs, how often each column does, and which kinds of it there are, and returns how much does."""
     some: List[Difference] = [it for where in old for it in differences(where, old[where], new[where])]
     for it in some[:SHOWN]:
         print(shown(it, folder))
@@ -148,6 +165,8 @@ def compare(old: Dict[str, Rows], new: Dict[str, Rows], folder: Path) -> int:
         print(f"and {len(some) - SHOWN:,} more")
     for (where, column), count in sorted(Counter((it.where, it.column or "the row") for it in some).items()):
         print(f"{where}: {column} differs {count:,} times")
+    for kind, count in Counter(map(kind_of, some)).most_common(KINDS_SHOWN):
+        print(f"{count:7,} {kind}")
     return len(some)
 
 
