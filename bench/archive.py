@@ -113,7 +113,8 @@ def measure_workers(bench: Bench, work: Work) -> None:
     processors = os.cpu_count() or 1
     numbers = [it for it in (1, 2, 4, 8, 16) if it <= processors]
     for has_server, beginning in bench.beginnings.items():
-        times = {it: least([bench.index(work.folder, bench.fresh(has_server), "--jobs", it) for _ in range(bench.rounds)]).time for it in numbers}
+        rounds = {it: [bench.index(work.folder, bench.fresh(has_server), "--jobs", it) for _ in range(bench.rounds)] for it in numbers}
+        times = {it: least(some).time for it, some in rounds.items()}
         shares = ", ".join(f"{it}: {times[1] / (it * times[it]):.2f} ({times[it]:.2f} s)" for it in numbers)
         first = times[1] - beginning.time
         alone = ", ".join(f"{it}: {first / (it * max(times[it] - beginning.time, 1e-3)):.2f}" for it in numbers)

@@ -35,7 +35,8 @@ from elements import message as message_of  # noqa: E402
 from making import message_at_random, tarred, zipped  # noqa: E402
 
 File = Tuple[str, bytes]
-VECTORS = (Path("/work/shared/vectors"), TOP / "tests" / "vectors", TOP / "tests" / "data", TOP / "archive" / "tests" / "data")
+VECTORS = [TOP / it for it in ("tests/vectors", "tests/data", "archive/tests/data")]
+VECTORS += map(Path, filter(None, os.environ.get("MORE_VECTORS", "").split(":")))
 ENDINGS = (".p7s", ".p7m", ".tsr", ".tsq", ".bin", ".cms", "")
 MORE_ENDINGS = (*ENDINGS, ".tst", ".der", ".pem", ".p7c", ".sig", ".eml", ".txt", ".pdf", ".zip", ".tar", ".gz", ".P7S", ".asice", ".jar", ".xml", ".mbox")
 SIZES = (4095, 4096, 4097, 65535, 65536, 65537)
@@ -117,13 +118,14 @@ def of_formats(make: Maker, random: Random) -> Iterator[File]:
     files = sorted((TOP / "archive" / "cms_canon_archive" / "containers").glob("*.py"))
     nodes = [node for it in files for node in ast.walk(ast.parse(it.read_text()))]
     marks = sorted({it.value for it in nodes if isinstance(it, ast.Constant) and isinstance(it.value, bytes)})
+    attached = make.cms(b"x", "-nodetach")
     for number, mark in enumerate(marks):
         rest = random.randbytes(random.choice((1, 10, 100, 1000)))
         yield f"{number}/begin.bin", mark + rest
         yield f"{number}/alone", mark
         yield f"{number}/text.txt", mark + b"\nsome text\n" * random.randrange(1, 9)
         yield f"{number}/later.bin", b"\0" * random.choice((2, 7, 257, 0x8001)) + mark + bytes(random.choice((0, 512 - len(mark) % 512, 9000)))
-        yield f"{number}/message.p7m", mark + make.cms_once(b"x", "-nodetach")
+        yield f"{number}/message.p7m", mark + attached
 
 
 def of_signed_contents(make: Maker, random: Random) -> Iterator[File]:
@@ -189,7 +191,7 @@ def of_algorithms(make: Maker, random: Random) -> Iterator[File]:
 
 def of_vectors(make: Maker, random: Random) -> Iterator[File]:
     """Gives what the vectors have in hexadecimal digits under many endings, in PEM and base64, cut, and with changed octets."""
-    octets = sorted({bytes.fromhex(it) for folder in VECTORS if folder.exists() for file in sorted(folder.iterdir()) for it in _texts_in(file)})
+    octets = sorted({bytes.fromhex(it) for folder in VECTORS for file in sorted(folder.iterdir()) for it in _texts_in(file)})
     for number, message in enumerate(octets):
         for ending in ENDINGS if message.startswith(b"\x30") else random.sample(ENDINGS, 2):
             yield f"{number % 20}/{number}{ending}", message
@@ -284,8 +286,11 @@ def of_texts(make: Maker, random: Random, count: int = 700) -> Iterator[File]:
 
 def of_names(make: Maker, random: Random) -> Iterator[File]:
     """Gives messages beside their documents, of which the names are odd."""
-    names = [b"no UTF-8 \xff", rb"a backslash \xff", b"control \t\x1b\xc2\x9b", "\u00e9\u0301 \u202e".encode(), b" ", b"-", b"a\nb", b"'\"`$", b"%s%n", b"x" * 240, b"..a",
-             b"a!b", b"a#2", b"A" * 200 + b"\xff" * 9, "\U0001f600".encode(), b"~", b"*?[a]", b"doc.p7s", b"a.tar.gz", b".hidden", b"CON", b"a:b", b"\\", b"x."]
+    names = [
+        b"no UTF-8 \xff", rb"a backslash \xff", b"control \t\x1b\xc2\x9b", "\u00e9\u0301 \u202e".encode(), b" ", b"-", b"a\nb", b"'\"`$", b"%s%n", b"x" * 240,
+        b"..a", b"a!b", b"a#2", b"A" * 200 + b"\xff" * 9, "\U0001f600".encode(), b"~", b"*?[a]", b"doc.p7s", b"a.tar.gz", b".hidden", b"CON", b"a:b", b"\\",
+        b"x.",
+    ]
     der, attached = make.cms(DOCUMENT), make.cms(DOCUMENT, "-nodetach")
     for number, name in enumerate(names):
         folder, text = f"{number % 3}" if number % 2 else os.fsdecode(name), os.fsdecode(name)
@@ -301,12 +306,13 @@ def of_members(files: List[File], random: Random, count: int = 300) -> Iterator[
     for number in range(count):
         some = {name.encode("utf-8", "surrogateescape").decode("utf-8", "replace"): it for name, it in random.sample(small, random.choice((1, 3, 30)))}
         one = random.choice([*some.values()])
-        packed = random.choice((
-            (".tar", lambda: tarred(some)), (".tar.gz", lambda: tarred(some, "w:gz")), (".tar.xz", lambda: tarred(some, "w:xz")), (".zip", lambda: zipped(some)),
-            (".zip", lambda: zipped(some, zipfile.ZIP_STORED)), (".gz", lambda: gzip.compress(one)), (".bz2", lambda: bz2.compress(one)),
-            (".tar", lambda: tarred({"in.zip": zipped(some), "in.tar": tarred(some)})), (".zip", lambda: zipped({"in.tar.gz": tarred(some, "w:gz"), **some})),
+        ending, pack = random.choice((
+            (".tar", lambda: tarred(some)), (".tar.gz", lambda: tarred(some, "w:gz")), (".tar.xz", lambda: tarred(some, "w:xz")),
+            (".zip", lambda: zipped(some)), (".zip", lambda: zipped(some, zipfile.ZIP_STORED)), (".gz", lambda: gzip.compress(one)),
+            (".bz2", lambda: bz2.compress(one)), (".tar", lambda: tarred({"in.zip": zipped(some), "in.tar": tarred(some)})),
+            (".zip", lambda: zipped({"in.tar.gz": tarred(some, "w:gz"), **some})),
         ))
-        yield f"{number}{packed[0]}", packed[1]()
+        yield f"{number}{ending}", pack()
 
 
 def changed(octets: bytes, random: Random) -> bytes:
@@ -349,22 +355,9 @@ SOURCES: Dict[str, Callable[[Maker, Random], Iterable[File]]] = {
 }
 
 
-class Signer(Maker):
-    """Signs in a folder of its own, the same content with the same words once."""
-
-    def __init__(self, folder: Path) -> None:
-        self._kept: Dict[Tuple[object, ...], bytes] = {}
-        super().__init__(folder)
-
-    def cms_once(self, octets: bytes, *more: str) -> bytes:
-        if (octets, *more) not in self._kept:
-            self._kept[(octets, *more)] = self.cms(octets, *more)
-        return self._kept[(octets, *more)]
-
-
 def files_of_every_kind(home: Path, count: int, seed: int) -> Iterator[File]:
     """Gives some `count` files: those of the sources, members that they are, and as many changed ones as are left."""
-    make, files = Signer(home), []
+    make, files = Maker(home), []
     generated_messages.beginning()
     for source, made in SOURCES.items():
         files += [(f"{source.removeprefix('of_')}/{name}", octets) for name, octets in made(make, Random(f"{seed} {source}"))]

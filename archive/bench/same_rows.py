@@ -4,8 +4,9 @@
     /usr/bin/python3 archive/bench/same_rows.py OLD NEW [FILES [SEED]]
 
 Each version is a commit, or a folder with a working tree. Its packages are copied, with the library of its release, and index the same folder:
-as they do by themselves, with `--verify`, and by `rows`. All columns are compared but for those that say who read a file. The exit status is 1
-if anything differs, or if nothing was compared.
+as they do by themselves, with `--verify`, each twice, and by `rows`. All columns are compared but for those that say who read a file, and what the
+command says. The exit status is 1 if anything differs, or if nothing was compared. `MORE_VECTORS` in the environment names more folders with
+vectors, whose octets become files.
 """
 
 import json
@@ -48,9 +49,12 @@ class Version(NamedTuple):
     home: Path
     module: str
 
-    def call(self, *words: object, **how: Any) -> None:
+    def call(self, *words: object, **how: Any) -> str:
+        """Runs the command, and returns the last line that it says beside its output."""
         called = [sys.executable, "-m", f"{self.module}.command", *map(str, words)]
-        subprocess.run(called, cwd=self.home, env={**os.environ, "PYTHONPATH": str(self.home)}, stderr=subprocess.DEVNULL, check=True, **how)
+        environment = {**os.environ, "PYTHONPATH": str(self.home)}
+        done = subprocess.run(called, cwd=self.home, env=environment, stderr=subprocess.PIPE, text=True, check=True, **how)
+        return (done.stderr.splitlines() or [""])[-1]
 
 
 def copied(name: str, home: Path) -> Version:
@@ -80,11 +84,12 @@ def has(name: str, folder: str) -> bool:
 
 
 def stored_by(version: Version, folder: Path) -> Dict[str, Rows]:
-    """Returns the rows of each way to read a folder, and of each table."""
-    found: Dict[str, Rows] = {}
+    """Returns the rows of each way to read a folder, and of each table; and what is said of a folder that is read for the first time, and again."""
+    found: Dict[str, Rows] = {"said": {}}
     for how, words in (("index", ()), ("index --verify", ("--verify",))):
         store = version.home / f"{len(words)}.db"
-        version.call("index", folder, "--store", store, *words)
+        for time_of_it in ("first", "again"):
+            found["said"][how, time_of_it] = {"line": version.call("index", folder, "--store", store, *words)}
         found.update({f"{how}: {table}": rows for table, rows in rows_in(store).items()})
     lines = version.home / "lines"
     with open(lines, "wb") as file:
@@ -109,11 +114,10 @@ def rows_of_lines(lines: Path) -> Rows:
     places: Counter = Counter()
     for line in lines.read_text(errors="surrogateescape").splitlines():
         row = json.loads(line)
-        if "end" in row:
-            found["end", ""] = row
-            continue
-        places[row["path"]] += 1
-        found[row["path"], row["member"]] = {**row, "place": places[row["path"]]}
+        path, member = row.get("path", "end"), row.get("member", "")
+        places[path] += 1
+        places[path, member] += 1
+        found[path, member, places[path, member]] = {**row, "place": places[path]}
     return found
 
 
@@ -165,6 +169,8 @@ def compare(old: Dict[str, Rows], new: Dict[str, Rows], folder: Path) -> int:
         print(f"and {len(some) - SHOWN:,} more")
     for (where, column), count in sorted(Counter((it.where, it.column or "the row") for it in some).items()):
         print(f"{where}: {column} differs {count:,} times")
+    for source, count in Counter(str(it.key[0]).replace(f"{folder}/", "").partition("/")[0] for it in some).most_common():
+        print(f"{count:7,} of files of {source}")
     for kind, count in Counter(map(kind_of, some)).most_common(KINDS_SHOWN):
         print(f"{count:7,} {kind}")
     return len(some)
@@ -182,6 +188,8 @@ def main(words: List[str]) -> int:
         time.sleep(SETTLED)
         with ThreadPoolExecutor() as threads:
             old, new = threads.map(lambda it: stored_by(it, folder), versions)
+        for (how, time_of_it), row in new["said"].items():
+            print(f"{how}, {time_of_it}: {row['line']}")
         differing = compare(old, new, folder)
         rows = {where: len(it) for where, it in old.items()}
     print(f"{old_name} and {new_name}: {differing:,} differences among {sum(rows.values()):,} rows: {', '.join(f'{n:,} of {it}' for it, n in rows.items())}")
