@@ -3,10 +3,11 @@
 
     /usr/bin/python3 bench/archive.py [FILES [ROUNDS]] [--profile]
 
-Processor time is that of all processes; that of the PostgreSQL server comes beside it. Each round runs sha256sum and then the index, and the
-least of all rounds counts. Half a second is taken to begin, whatever there is to do: so each ratio comes also without what the index of an empty
-folder takes. Then come how well several workers share the work, how time and memory grow with the files, what each step of a worker takes, and
-how long the command takes to begin. With `--profile`, a worker reads the messages in one process, and the functions that take longest are printed.
+Processor time is that of all processes; that of the PostgreSQL server comes beside it. Each round runs the index, and then sha256sum again and
+again for half as long, so that both see the same machine; the least of all rounds counts. To begin takes long whatever there is to do: so each ratio
+comes also without what the index of an empty folder takes. Then come how well several workers share the work, how time and memory grow with the
+files, what each step of a worker takes, and how long the command takes to begin. With `--profile`, a worker reads messages in one process, and the
+functions that take longest are printed. The files lie where `TMPDIR` says: in memory, if that is /dev/shm.
 """
 
 import argparse
@@ -66,20 +67,27 @@ class Bench:
         words = [sys.executable, "-m", "cms_canon_archive.command", "index", folder, "--store", store, *options]
         return ran(words, self.server if "://" in str(store) else None)
 
-    def sum(self, folder: Path) -> Used:
-        """Runs sha256sum of all files in a folder."""
+    def sum(self, folder: Path, seconds: float = 0.0) -> Used:
+        """Runs sha256sum of all files in a folder, again and again for so many seconds, and returns what once took on average."""
         names = self.home / "names"
-        names.write_bytes(b"\0".join(map(os.fsencode, files.files_in(folder))))
-        return ran(["xargs", "-0", "-a", names, "sha256sum"])
+        with open(names, "wb") as file:
+            subprocess.run(["find", folder, "-type", "f", "-print0"], stdout=file, check=True)
+        some, end = [], time.monotonic() + seconds
+        while not some or time.monotonic() < end:
+            some.append(ran(["xargs", "-0", "-a", names, "sha256sum"]))
+        return Used(*(sum(it) / len(some) for it in zip(*some)))
 
     def alternated(self, work: Work, has_server: bool, store_of: Callable[[], object]) -> None:
         """Prints what an index takes of what sha256sum does."""
         summed = work.summed or (("", work.folder),)
-        rounds = [([self.sum(folder) for _, folder in summed], self.index(work.folder, store_of())) for _ in range(self.rounds)]
-        used = least([it for _, it in rounds])
+        used: List[Used] = []
+        sums: List[List[Used]] = []
+        for _ in range(self.rounds):
+            used.append(self.index(work.folder, store_of()))
+            sums.append([self.sum(folder, used[-1].time / 2) for _, folder in summed])
         for number, (of_what, _) in enumerate(summed):
-            of_it = least([it[number] for it, _ in rounds])
-            print(line_of(f"{work.name}{of_what}", used, self.beginnings[has_server], of_it, work.count), flush=True)
+            of_it = least([it[number] for it in sums])
+            print(line_of(f"{work.name}{of_what}", least(used), self.beginnings[has_server], of_it, work.count), flush=True)
 
 
 def line_of(name: str, used: Used, beginning: Used, summed: Used, count: int) -> str:
