@@ -146,7 +146,8 @@ def measure_beginnings(bench: Bench) -> None:
         used = least([ran([*command, *words], status=status) for _ in range(BEGINNINGS)])
         print(f"{words[0]}: {used.time:.3f} s, {used.processors:.3f} of the processor")
     for has_server, used in bench.beginnings.items():
-        print(f"index of an empty folder, {name_of(has_server)}: {used.time:.3f} s, {used.processors + used.server:.3f} of the processors, peak {used.memory:.0f} MiB")
+        seconds = f"{used.time:.3f} s, {used.processors + used.server:.3f} of the processors"
+        print(f"index of an empty folder, {name_of(has_server)}: {seconds}, peak {used.memory:.0f} MiB")
 
 
 def measure(home: Path, count: int, rounds: int, server: Optional[object]) -> None:

@@ -4,9 +4,9 @@
     /usr/bin/python3 archive/bench/same_rows.py OLD NEW [FILES [SEED]]
 
 Each version is a commit, or a folder with a working tree. Its packages are copied, with the library of its release, and index the same folder:
-as they do by themselves, with `--verify`, each twice, and by `rows`. All columns are compared but for those that say who read a file, and what the
-command says. The exit status is 1 if anything differs, or if nothing was compared. `MORE_VECTORS` in the environment names more folders with
-vectors, whose octets become files.
+into SQLite, into SQLite with `--verify`, and into PostgreSQL if it is installed, each twice, and by `rows`. All columns are compared but for those
+that say who read a file, and what the command says. The exit status is 1 if anything differs, or if nothing was compared. `MORE_VECTORS` in the
+environment names more folders with vectors, whose octets become files.
 """
 
 import json
@@ -20,10 +20,12 @@ import tempfile
 import time
 from collections import Counter
 from concurrent.futures import ThreadPoolExecutor
+from contextlib import closing, nullcontext
 from pathlib import Path
 from typing import Any, Dict, Iterator, List, NamedTuple, Tuple
 
 import every_kind
+import postgresql_server
 
 TOP = Path(__file__).resolve().parents[2]
 FILES, SEED = 20_000, 4057
@@ -53,7 +55,9 @@ class Version(NamedTuple):
         """Runs the command, and returns the last line that it says beside its output."""
         called = [sys.executable, "-m", f"{self.module}.command", *map(str, words)]
         environment = {**os.environ, "PYTHONPATH": str(self.home)}
-        done = subprocess.run(called, cwd=self.home, env=environment, stderr=subprocess.PIPE, text=True, check=True, **how)
+        done = subprocess.run(called, cwd=self.home, env=environment, stderr=subprocess.PIPE, text=True, **how)
+        if done.returncode:
+            raise SystemExit(f"{self.name}: {words[0]} ended with {done.returncode}: {done.stderr[-2000:]}")
         return (done.stderr.splitlines() or [""])[-1]
 
 
@@ -83,11 +87,13 @@ def has(name: str, folder: str) -> bool:
 # ---- what is stored
 
 
-def stored_by(version: Version, folder: Path) -> Dict[str, Rows]:
+def stored_by(version: Version, folder: Path, server: Any) -> Dict[str, Rows]:
     """Returns the rows of each way to read a folder, and of each table; and what is said of a folder that is read for the first time, and again."""
+    ways: Dict[str, Tuple[object, ...]] = {"index": (version.home / "plain.db",), "index --verify": (version.home / "verified.db", "--verify")}
+    if server is not None:
+        ways["index in PostgreSQL"] = (server.make_database(version.home.name),)
     found: Dict[str, Rows] = {"said": {}}
-    for how, words in (("index", ()), ("index --verify", ("--verify",))):
-        store = version.home / f"{len(words)}.db"
+    for how, (store, *words) in ways.items():
         for time_of_it in ("first", "again"):
             found["said"][how, time_of_it] = {"line": version.call("index", folder, "--store", store, *words)}
         found.update({f"{how}: {table}": rows for table, rows in rows_in(store).items()})
@@ -97,15 +103,25 @@ def stored_by(version: Version, folder: Path) -> Dict[str, Rows]:
     return {**found, "rows": rows_of_lines(lines)}
 
 
-def rows_in(store: Path) -> Dict[str, Rows]:
+def rows_in(store: object) -> Dict[str, Rows]:
     """Returns the rows of the views of a store."""
     found = {}
-    with sqlite3.connect(store) as connection:
-        connection.row_factory = sqlite3.Row
+    with closing(connected(str(store))) as connection:
         for table, keys in TABLES.items():
-            rows = map(dict, connection.execute(f"SELECT * FROM {table}"))
+            cursor = connection.cursor()
+            cursor.execute(f"SELECT * FROM {table}")
+            names = [it[0] for it in cursor.description]
+            rows = (dict(zip(names, it)) for it in cursor)
             found[table] = {tuple(row[it] for it in keys): row for row in rows}
     return found
+
+
+def connected(store: str) -> Any:
+    if "://" not in store:
+        return sqlite3.connect(store)
+    import psycopg2
+
+    return psycopg2.connect(store)
 
 
 def rows_of_lines(lines: Path) -> Rows:
@@ -179,7 +195,8 @@ def compare(old: Dict[str, Rows], new: Dict[str, Rows], folder: Path) -> int:
 def main(words: List[str]) -> int:
     old_name, new_name, *numbers = words
     count, seed = (int(numbers[it]) if len(numbers) > it else other for it, other in enumerate((FILES, SEED)))
-    with tempfile.TemporaryDirectory(prefix="same-rows-") as home:
+    has_server = postgresql_server.tools() is not None
+    with tempfile.TemporaryDirectory(prefix="same-rows-") as home, postgresql_server.server() if has_server else nullcontext() as server:
         folder = Path(home) / "files"
         folder.mkdir()
         versions = [copied(name, Path(home) / kind) for kind, name in (("old", old_name), ("new", new_name))]
@@ -187,7 +204,7 @@ def main(words: List[str]) -> int:
         print(f"seed {seed}: {sum(made.values()):,} files; {', '.join(f'{number:,} of {name}' for name, number in made.items())}", flush=True)
         time.sleep(SETTLED)
         with ThreadPoolExecutor() as threads:
-            old, new = threads.map(lambda it: stored_by(it, folder), versions)
+            old, new = threads.map(lambda it: stored_by(it, folder, server), versions)
         for (how, time_of_it), row in new["said"].items():
             print(f"{how}, {time_of_it}: {row['line']}")
         differing = compare(old, new, folder)
