@@ -374,12 +374,12 @@ def files_of_every_kind(home: Path, count: int, seed: int) -> Iterator[File]:
 
 def make_archive(folder: Path, home: Path, count: int, seed: int) -> Counter:
     """Writes files of every kind into a folder, and returns how many there are of each source."""
-    made: Counter = Counter()
+    sources: Dict[str, str] = {}
     for name, octets in files_of_every_kind(home, count, seed):
         path = folder / name
         path.parent.mkdir(parents=True, exist_ok=True)
         path.write_bytes(octets)
-        made[name.partition("/")[0]] += 1
+        sources[name] = name.partition("/")[0]
     os.mkfifo(folder / "fifo.p7s")
     (folder / "link.p7s").symlink_to(folder / "nowhere")
-    return made
+    return Counter(sources.values())
