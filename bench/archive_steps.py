@@ -3,7 +3,7 @@
 
     python3 bench/archive_steps.py FOLDER [SECONDS | --profile]
 
-bench/archive.py calls it with messages, and with the processor time that sha256sum takes for them. The packages are those that Python finds.
+bench/archives.py calls it with messages, and with the processor time that sha256sum takes for them. The packages are those that Python finds.
 """
 
 import cProfile
@@ -16,9 +16,12 @@ from pathlib import Path
 from typing import Any, Callable, List
 
 import cms_canon
+from cms_canon._facts import facts_of
 from cms_canon_archive import indexing
+from cms_canon_archive.folders import TOGETHER
 from cms_canon_archive.judging import judged
-from cms_canon_archive.reading import items_of, parts_of
+from cms_canon_archive.reading import found_in_entry, parts_of
+from cms_canon_archive.short_files import reads_together
 from cms_canon_archive.store import Store
 from cms_canon_archive.walking import entries_of
 from cms_canon_archive.working import Options
@@ -60,12 +63,13 @@ def measure(folder: str, summed: float) -> None:
     timed("walking", lambda: list(entries_of([folder])))
     octets = timed("reading", lambda: [Path(entry.path).read_bytes() for entry in entries])
     ders = timed("converting", lambda: [cms_canon.convert(it) for it in octets])
-    timed("fields", lambda: [len(cms_canon.read(it).signers) for it in ders])
     timed("findings", lambda: [cms_canon.check(it) for it in octets])
+    timed("converting, fields and findings, as facts", lambda: [facts_of(it, checks=True).kind for it in octets])
     timed("digests", lambda: [hashlib.sha256(it).hexdigest() for it in ders])
-    found = timed("reading and finding", lambda: [item.found for entry in entries for item in items_of(entry)])
-    timed("judging", lambda: [judged(it).digest for it in found])
-    timed("all of these, as rows", lambda: sum(len(it.rows) for it in parts_of(entries)))
+    found = timed("reading and finding, with facts of what holds data", lambda: [it for entry in entries for it in found_in_entry(entry)])
+    timed("judging, with facts of the others", lambda: [judged(it).digest for it in found])
+    timed("all of these, many files at a time", lambda: [reads_together(entries[begin : begin + TOGETHER]) for begin in range(0, len(entries), TOGETHER)])
+    timed("all of these, as lines of rows", lambda: sum(len(it.rows) for it in parts_of(entries)))
     timed("a worker, all with storing in SQLite", lambda: worked(folder))
 
 

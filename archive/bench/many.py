@@ -3,7 +3,7 @@
 
     /usr/bin/python3 archive/bench/many.py [FILES [DIGESTS]]
 
-The files are messages of 1.6 kB, which bench/archive.py measures by the processes of one command. Of the digests a hundredth is there twice.
+The files are messages of 1.6 kB, which bench/archives.py measures by the processes of one command. Of the digests a hundredth is there twice.
 """
 
 import json

@@ -77,8 +77,8 @@ def _found_inside(source: Source, depth: int = 0, mails: int = 0) -> Iterator[Fo
 
 
 def found_alone(source: Source) -> Optional[Found]:
-    """Returns what a file in memory is if nothing else lies in it, as in most: a message, a text or nothing. If that is not clear at once, returns
-    None."""
+    """Returns what a file that was read whole is if nothing else lies in it, as in most: a message, a text or nothing. If that is not clear at once,
+    returns None."""
     place = seen_alone(source)
     if place is None or place.what is not Class.MESSAGE:
         return place
@@ -87,7 +87,7 @@ def found_alone(source: Source) -> Optional[Found]:
 
 def seen_alone(source: Source) -> Optional[Found]:
     """Returns the same before the content that a message holds is looked into."""
-    if not source.is_in_memory:
+    if not source.is_whole:
         return None
     try:
         return _by_beginning(source)

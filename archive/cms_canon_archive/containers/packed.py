@@ -21,7 +21,7 @@ from typing import Any, BinaryIO, Callable, Dict, Iterator, List, NamedTuple, Op
 from .found import Class, Content, Found, Pieces, State
 from .names import differing, path_of
 from .replaced import Replaced
-from .sources import MOST_IN_MEMORY, PIECE, Budget, Ended, Readable, Source, TooLarge, TooMuch, in_memory
+from .sources import HEAD, MOST_IN_MEMORY, PIECE, Budget, Ended, Readable, Source, TooLarge, TooMuch, in_memory
 from .tar_headers import are_odd_values, is_odd, suit
 
 Search = Callable[[Source], Iterator[Found]]
@@ -365,22 +365,33 @@ class Tar:
                     found.doubt("what follows its end")
 
     def _in_members(self) -> Iterator[Found]:
-        for member, file in self._members():
+        for member, tar in self._members():
             name = member.name or "."
             try:
-                yield from self._each(name, self._search(self._source.inner(name, file, member.size)))
+                yield from self._each(name, self._search(self._inner(name, member, tar)))
             except (Ended, Damaged, MemoryError):
                 raise
             except Exception as why:
                 yield Found(name, "file", Class.DAMAGED, member.size, note=why_of(why))
 
+    def _inner(self, name: str, member: Any, tar: Any) -> Source:
+        """Returns a member as a source: a short one is read at once, which is half the work."""
+        if member.size >= HEAD:
+            return self._source.inner(name, tar.extractfile(member), member.size)
+        blocks = tar.fileobj
+        blocks.seek(member.offset_data)
+        octets = blocks.read(member.size)
+        if len(octets) < member.size:
+            raise tarfile.ReadError("unexpected end of data")  # as tarfile says it
+        return in_memory(name, octets, self._source.budget)
+
     def _in_hard_links(self) -> Iterator[Found]:
         """Gives the messages in members once more under the names of the hard links to them."""
         if "_replaced" not in self.__dict__ or not self._replaced.hard_links:
             return
-        for member, file in self._members():
+        for member, tar in self._members():
             names = self._replaced.hard_links.get(path_of(member.name), ())
-            octets = self._source.budget.read(file, MOST_IN_MEMORY) if names else b""
+            octets = self._source.budget.read(tar.extractfile(member), MOST_IN_MEMORY) if names else b""
             for name in names:
                 found = self._search(in_memory(name, octets, self._source.budget))
                 yield from self._each(name, (it for it in found if it.what in (Class.MESSAGE, Class.CONTAINER)))
@@ -393,7 +404,7 @@ class Tar:
             octets = len(place.octets or b"")
             if wants and self._octets_waiting + octets <= MOST_WAITING:
                 self._octets_waiting += octets
-                self._waiting.setdefault(path_of(wants), []).append(whole)
+                self._waiting.setdefault(path_of(wants), []).append(whole._replace(facts=None))  # which take more memory than its octets
             else:
                 yield whole.with_content(None) if wants else whole
 
@@ -404,12 +415,12 @@ class Tar:
             for path in {name, self._replaced.targets.get(name, name)}:
                 wanted.setdefault(path, []).append(name)
         try:
-            for member, file in self._members():
+            for member, tar in self._members() if self._replaced.may_have(wanted) else ():
                 path = path_of(member.name)
                 names = wanted.get(path, [])
                 if not names:
                     continue
-                content = content_read(path, member.size, file, self._source.budget)
+                content = content_read(path, member.size, tar.extractfile(member), self._source.budget)
                 for name in names:
                     self._with_content.add(name)
                     noted = replace(content, where=name, note=content.note or differing(name, self._replaced.reason(name)))
@@ -439,11 +450,11 @@ class Tar:
                 raise Damaged("no end mark follows the last member")
 
     def _members(self) -> Iterator[Any]:
-        """Gives each file with what reads it: POSIX has a member of an unknown type taken for a file. Raises the same."""
+        """Gives each file, with the tar that reads it: POSIX has a member of an unknown type taken for a file. Raises the same."""
         with self._opened() as blocks:
             for member, file in self._headers(blocks):
                 if member.isfile() or member.type not in tarfile.SUPPORTED_TYPES:
-                    yield member, file.extractfile(member)
+                    yield member, file
 
     @contextmanager
     def _opened(self) -> Iterator[_Forward]:

@@ -8,7 +8,7 @@ from __future__ import annotations
 import hashlib
 import tarfile
 from array import array
-from typing import Dict, List, Set
+from typing import Dict, Iterable, List, Set
 
 from .names import folded, path_of, paths_of
 
@@ -101,7 +101,11 @@ class Replaced:
         self._same, self._alike = _repeated(self._keys), _repeated(self._folded)
         self._same |= {_key(target) for path, target in self._links.items() if _key(path) in self._same}
         self._add_early_links()
-        self._keys, self._folded = array("Q"), array("Q")
+        self._folded = array("Q")
+
+    def may_have(self, paths: Iterable[str]) -> bool:
+        """Whether a member may have one of these paths: only if all headers could be read is it known that none has."""
+        return bool(self.whole) or not set(map(_key, paths)).isdisjoint(self._keys)
 
     def _add_early_links(self) -> None:
         """Adds the hard links before their targets, which most readers cannot make."""

@@ -159,6 +159,11 @@ class Source:
             self.head += piece
         self._octets: Optional[bytes] = self.head if len(self.head) < HEAD else None
 
+    @property
+    def is_whole(self) -> bool:
+        """Whether all of it was read."""
+        return self._octets is not None
+
     def octets(self) -> bytes:
         """Returns all of it. Raises `TooLarge` if that is more than is read as a whole."""
         if self._octets is None:

@@ -1,7 +1,7 @@
 #!/usr/bin/env python3
 """Measures `cms-canon-archive index` of many small files by how many times the processor time of `sha256sum` of the same files it takes.
 
-    /usr/bin/python3 bench/archive.py [FILES [ROUNDS]] [--profile]
+    /usr/bin/python3 bench/archives.py [FILES [ROUNDS]] [--profile]
 
 Processor time is that of all processes; that of the PostgreSQL server comes beside it. Each round runs the index, and then sha256sum again and
 again for half as long, so that both see the same machine; the least of all rounds counts. To begin takes long whatever there is to do: so each ratio
