@@ -18,10 +18,9 @@ from typing import Any, Callable, List
 import cms_canon
 from cms_canon._facts import facts_of
 from cms_canon_archive import indexing
-from cms_canon_archive.folders import TOGETHER
 from cms_canon_archive.judging import judged
 from cms_canon_archive.reading import found_in_entry, parts_of
-from cms_canon_archive.short_files import reads_together
+from cms_canon_archive.short_files import groups, reads_together
 from cms_canon_archive.store import Store
 from cms_canon_archive.walking import entries_of
 from cms_canon_archive.working import Options
@@ -68,7 +67,8 @@ def measure(folder: str, summed: float) -> None:
     timed("digests", lambda: [hashlib.sha256(it).hexdigest() for it in ders])
     found = timed("reading and finding, with facts of what holds data", lambda: [it for entry in entries for it in found_in_entry(entry)])
     timed("judging, with facts of the others", lambda: [judged(it).digest for it in found])
-    timed("all of these, many files at a time", lambda: [reads_together(entries[begin : begin + TOGETHER]) for begin in range(0, len(entries), TOGETHER)])
+    files = [(entry.path, entry) for entry in entries]
+    timed("all of these, many files at a time", lambda: [reads_together([entry for _, entry in some]) for some in groups(files)])
     timed("all of these, as lines of rows", lambda: sum(len(it.rows) for it in parts_of(entries)))
     timed("a worker, all with storing in SQLite", lambda: worked(folder))
 

@@ -14,6 +14,7 @@ import os
 from typing import AbstractSet, Dict, Iterable, List, NamedTuple, Optional, Set, Tuple
 
 from .containers.packed import why_of
+from .judging import judged
 from .reading import Entry, Read, read_of, reads_of, unread
 from .sessions import Held, Known, New, Outcome
 from .spool import Spool
@@ -22,7 +23,6 @@ from .texts import chunk_of, is_cut, name_of_text, text_of
 from .walking import entry_in, entry_of, is_reached
 
 FEW = 2000  # files of a folder that are one part; if there are four times as many, it is divided
-TOGETHER = 32  # files that are read together, if they are short
 LARGE = 4 << 20  # octets of a file that is a part of its own
 NOT_THERE = (errno.ENOENT, errno.ENOTDIR, errno.ELOOP)  # errors of a path that is not there
 KILLED = "a process that read it was killed, perhaps because memory ran out"
@@ -138,12 +138,10 @@ class Reader:
 
     def read(self, part: Held) -> Outcome:
         """Reads a part whole."""
-        outcome = Outcome(part)
-        from .short_files import reads_together
+        from .short_files import groups, reads_together
 
-        left = self.begin(outcome)
-        for begin in range(0, len(left), TOGETHER):
-            some = left[begin : begin + TOGETHER]
+        outcome = Outcome(part)
+        for some in groups(self.begin(outcome)):
             for (file, entry), read in zip(some, reads_together([entry for _, entry in some], part.verifies)):
                 if read is None:
                     self.read_file(outcome, file, entry)
@@ -242,7 +240,8 @@ class Reader:
     def put_error(self, outcome: Outcome, file: str, path: str, why: str) -> None:
         """Puts a row that says why a file or a folder was not read."""
         entry = Entry(path, 0, 0, 0) if os.path.isdir(path) else entry_of(path)
-        self.put(outcome, file, entry, [read_of(entry, unread(entry, why))])
+        found = unread(entry, why)
+        self.put(outcome, file, entry, [read_of(entry, found, judged(found))])
 
 
 def _is_same(known: Optional[Known], entry: Entry, verifies: bool) -> bool:

@@ -59,7 +59,7 @@ class Signer(NamedTuple):
     """A signer or a countersigner, by what it says of itself and by its certificate in the message."""
 
     number: str
-    """As `0`, and as `0.1` of its second countersignature; both from 0 in the order read."""
+    """As `0`, and as `0.1` of its second countersignature; both from 0 in the order of the DER."""
     digest: str
     signature: str
     issuer: Optional[str] = None
@@ -187,9 +187,9 @@ def _read_certificate(octets: bytes) -> Optional[_Certificate]:
         names = text_of(read.issuer.rfc4514_string()), text_of(read.subject.rfc4514_string())
         times = read.not_valid_before.isoformat() + "Z", read.not_valid_after.isoformat() + "Z"
         found = found._replace(issuer_text=names[0], subject=names[1], not_before=times[0], not_after=times[1])
-        found = found._replace(signature=_signature_of(read))
+        found = found._replace(signature=text_of(_signature_of(read)))
         key, bits = _key_of(read)
-        return found._replace(key=key, bits=bits)
+        return found._replace(key=text_of(key) if key else key, bits=bits)
     except Exception:  # whatever `cryptography` raises for a certificate or a key that it does not take
         return found
 

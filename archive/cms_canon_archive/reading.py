@@ -19,7 +19,7 @@ from .containers.found import Class, Content, Found, Octets
 from .containers.packed import ENDINGS, PACKINGS, name_inside, why_of
 from .containers.sources import DEEPEST, TooMuch
 from .judging import Facts, Signer, Time, judged
-from .texts import path_text_of, text_of
+from .texts import LONGEST, cut, path_text_of, text_of
 
 Row = Dict[str, Any]  # of a store, or a line of `rows`
 Values = Tuple[Any, ...]
@@ -156,9 +156,21 @@ def judged_or_not(found: Found, verifies: bool) -> Facts:
         return Facts(what=Class.UNREADABLE, note="out of memory")
 
 
-def read_of(entry: Entry, found: Found, verifies: bool = False) -> Read:
-    """Returns what is to be stored of what was found in a file."""
-    facts = judged_or_not(found, verifies)
+def _of_signer(signer: Signer) -> Values:
+    """Returns the values of a signer, of which few have any that is too long. Texts that come from certificates are as a store takes them."""
+    serial, key_identifier = signer.serial, signer.key_identifier
+    if len(signer.digest) + len(signer.signature) + len(serial or key_identifier or "") <= LONGEST // 4:
+        return signer
+    signer = signer._replace(digest=cut(signer.digest), signature=cut(signer.signature))
+    return signer._replace(serial=serial and cut(serial), key_identifier=key_identifier and cut(key_identifier))
+
+
+def _of_time(time: Time) -> Values:
+    return tuple(cut(it) if type(it) is str else it for it in (*time[:-1], time.state.value))
+
+
+def read_of(entry: Entry, found: Found, facts: Facts, verifies: bool = False) -> Read:
+    """Returns what is to be stored of what was found in a file, of which this is known."""
     note = text_of(facts.note) if facts.note else ""
     latest = max(entry.changed, int(entry.beside.split(":")[1])) if entry.beside else entry.changed
     place = Place(
@@ -179,20 +191,20 @@ def read_of(entry: Entry, found: Found, verifies: bool = False) -> Read:
         entry.beside,
         facts.what.value,
         text_of(found.form),
-        facts.content_type,
+        cut(facts.content_type) if facts.content_type else facts.content_type,
         text_of(facts.content) if facts.content else facts.content,
         None if facts.state is None else facts.state.value,
         note,
-        facts.findings,
-        facts.digests,
-        facts.signatures,
+        cut(facts.findings),
+        cut(facts.digests),
+        cut(facts.signatures),
         facts.verdict,
         time.time_ns() - latest > SETTLED,
         verifies,
         cms_canon.__version__,
         READER,
     )
-    return Read(place, facts.signed_by, [(*it[:-1], it.state.value) for it in facts.times])
+    return Read(place, [_of_signer(it) for it in facts.signed_by], [_of_time(it) for it in facts.times])
 
 
 def row_in_file(read: Read) -> Row:
@@ -207,17 +219,12 @@ def row_in_file(read: Read) -> Row:
 
 def row_of(entry: Entry, found: Found, verifies: bool = False) -> Row:
     """Returns the line of `rows` for what was found in a file."""
-    return {"path": path_text_of(entry.path), **row_in_file(read_of(entry, found, verifies))}
+    return {"path": path_text_of(entry.path), **row_in_file(read_of(entry, found, judged_or_not(found, verifies), verifies))}
 
 
 def unread(entry: Entry, error: str) -> Found:
     """Returns a file whose octets cannot be read because of an error."""
     return Found("", "file", Class.UNREADABLE, entry.size, note=error)
-
-
-def absent_beside(entry: Entry) -> str:
-    """Returns the path of the file that one may sign, if that was not there when its folder was listed: if it came since, the file is read again."""
-    return "" if entry.beside else wanted_beside(entry.path)
 
 
 def found_in_entry(entry: Entry) -> Iterator[Found]:
@@ -226,7 +233,7 @@ def found_in_entry(entry: Entry) -> Iterator[Found]:
 
     left = [MOST_BESIDE]
     try:
-        for it in found_in_path(entry.path, absent_beside(entry)):
+        for it in found_in_path(entry.path):
             yield it if it.content is None else metered(it, it.content, entry.path, left)
     except MemoryError:
         yield unread(entry, "out of memory")
@@ -237,7 +244,7 @@ def found_in_entry(entry: Entry) -> Iterator[Found]:
 def reads_of(entry: Entry, verifies: bool = False) -> Iterator[Read]:
     """Reads a file, and gives what is to be stored of each place in it, the file itself last."""
     for it in found_in_entry(entry):
-        yield read_of(entry, it, verifies)
+        yield read_of(entry, it, judged_or_not(it, verifies), verifies)
 
 
 # ---- rows as lines

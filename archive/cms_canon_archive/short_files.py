@@ -1,4 +1,4 @@
-"""Short files in which nothing else lies, as in most: they are read many at a time.
+"""Short files in which nothing else lies, as most files are: they are read many at a time.
 
 Each step is done for all of them before the next one. So its code stays in the caches of the processor, which takes a quarter less time than to
 read one file after another.
@@ -6,61 +6,88 @@ read one file after another.
 
 from __future__ import annotations
 
-from typing import Callable, List, NamedTuple, Optional, Sequence, TypeVar
+from typing import Callable, Iterator, List, NamedTuple, Optional, Sequence, Tuple, TypeVar
 
 import cms_canon
 from cms_canon._facts import Facts, facts_of
 
-from .containers.files import short, with_beside
+from .containers.files import SHORT, short, with_beside
 from .containers.finder import opened_alone, seen_alone
 from .containers.found import Class, Found
 from .containers.sources import Ended, Source
-from .reading import MOST_BESIDE, Entry, Read, absent_beside, metered, read_of
+from .judging import judged
+from .reading import MOST_BESIDE, Entry, Read, metered, read_of
 
+TOGETHER = 32  # files that are read together
+OCTETS_TOGETHER = 1 << 17  # of all of them: what a hostile message says may take 60 times its octets
 T = TypeVar("T")
 
 
 class _Seen(NamedTuple):
-    """A short file, and what it seems to be."""
+    """A file, and what it seems to be."""
 
+    entry: Entry
     source: Source
     place: Found
 
 
+class _Said(NamedTuple):
+    """The same with what a message says; None if it is refused, or no message."""
+
+    seen: _Seen
+    facts: Optional[Facts]
+
+
+def groups(files: Sequence[Tuple[str, Entry]]) -> Iterator[Sequence[Tuple[str, Entry]]]:
+    """Gives the files in groups that are to be read together."""
+    begin = octets = 0
+    for at, (_, entry) in enumerate(files):
+        octets += entry.size
+        if at > begin and (octets > OCTETS_TOGETHER or at - begin == TOGETHER):
+            yield files[begin:at]
+            begin, octets = at, entry.size
+    if files:
+        yield files[begin:]
+
+
 def reads_together(entries: Sequence[Entry], verifies: bool = False) -> List[Optional[Read]]:
-    """Reads short files in which nothing else lies, as most are, in three steps of which each is done for all of them: so its code stays in the caches
-    of the processor, which takes a quarter less time. For any other file, and one that cannot be read, there is None: `reads_of` reads it.
-    """
+    """Returns what is to be stored of each short file in which nothing else lies, and None for any other file: `reads_of` has to read it, as it does
+    one that cannot be read, or for which memory runs out here."""
     seen = [_tried(_seen, it) for it in entries]
-    facts = [None if it is None else _tried(_facts_of, it, entry) for it, entry in zip(seen, entries)]
-    return [None if it is None else _tried(_read_alone, it, entry, said, verifies) for it, entry, said in zip(seen, entries, facts)]
+    said = [None if it is None else _tried(_said, it) for it in seen]
+    return [None if it is None else _tried(_read, it, verifies) for it in said]
 
 
 def _tried(do: Callable[..., Optional[T]], *words: object) -> Optional[T]:
-    """Returns None too if that fails, as `reads_of` will say."""
     try:
         return do(*words)
-    except (OSError, Ended, MemoryError, cms_canon.Refused):
+    except (OSError, Ended, MemoryError):
         return None
 
 
 def _seen(entry: Entry) -> Optional[_Seen]:
-    source = short(entry.path)
+    source = short(entry.path) if entry.size < SHORT else None
     place = None if source is None else seen_alone(source)
-    return None if source is None or place is None else _Seen(source, place)
+    return None if source is None or place is None else _Seen(entry, source, place)
 
 
-def _facts_of(seen: _Seen, entry: Entry) -> Optional[Facts]:
-    """Returns what a message says, and what is found in it if there is nothing beside it that it may cover."""
+def _said(seen: _Seen) -> _Said:
+    """Reads what a message says, and what is found in it if there is nothing beside it that it may cover."""
     place = seen.place
-    return None if place.what is not Class.MESSAGE or place.octets is None else facts_of(place.octets, checks=not entry.beside)
+    if place.what is not Class.MESSAGE or place.octets is None:
+        return _Said(seen, None)
+    try:
+        return _Said(seen, facts_of(place.octets, checks=not seen.entry.beside))
+    except cms_canon.Refused:
+        return _Said(seen, None)
 
 
-def _read_alone(seen: _Seen, entry: Entry, facts: Optional[Facts], verifies: bool) -> Optional[Read]:
-    place: Optional[Found] = seen.place
-    if seen.place.what is Class.MESSAGE:
-        place = opened_alone(seen.place, seen.source, facts)
+def _read(said: _Said, verifies: bool) -> Optional[Read]:
+    entry, source, seen = said.seen
+    place = opened_alone(seen, source, said.facts) if seen.what is Class.MESSAGE else seen
     if place is None:
         return None
-    place = with_beside(place, absent_beside(entry))
-    return read_of(entry, place if place.content is None else metered(place, place.content, entry.path, [MOST_BESIDE]), verifies)
+    place = with_beside(place)
+    if place.content is not None:
+        place = metered(place, place.content, entry.path, [MOST_BESIDE])
+    return read_of(entry, place, judged(place, verifies), verifies)

@@ -11,6 +11,7 @@ from random import Random
 import pytest
 from cases import DOCUMENT, TIME_STAMP, TEXT, Case, with_unsigned, write
 from counting import count_if, count_same, needs
+from elements import element
 from making import message_at_random, write_files
 from places import TOP
 from tally import count
@@ -18,6 +19,7 @@ from tally import count
 pytestmark = [pytest.mark.archive, needs("cryptography", tools=["openssl"])]
 SEED = 6007
 MESSAGES = 1500
+ALGORITHM = element(0x30, bytes.fromhex("0609608648016503040201"))
 LONG = 1 << 16  # octets from which on a file is not read at once
 
 
@@ -167,9 +169,58 @@ def test_what_fails_is_read_by_itself(archive, make, home):
     count_same("files that are gone or none", came, ["message", None, None, None, "refused", "text"])
     with mock.patch.object(short_files, "facts_of", side_effect=MemoryError):
         came = [None if it is None else it.place.what for it in short_files.reads_together(entries[:1])]
-    count_same("memory that runs out", came, ["message"])
+    count_same("memory that runs out", came, [None])
     with mock.patch.object(short_files, "read_of", side_effect=MemoryError):
         count_same("memory that runs out at the end", short_files.reads_together(entries[-1:]), [None])
+
+
+def test_groups(archive):
+    """A group has at most 32 files, and no more octets than a hostile message may cost, but for a file that is longer by itself."""
+    from cms_canon_archive import short_files
+
+    random = Random(SEED)
+    files = [(str(it), archive.reading.Entry(str(it), random.choice((0, 1600, 9000, LONG, 1 << 20)), 0, 0)) for it in range(3000)]
+    groups = list(short_files.groups(files))
+    count_same("all files in their order", [it for some in groups for it in some], files)
+    octets = [sum(entry.size for _, entry in some) for some in groups]
+    wrong = [some for some, size in zip(groups, octets) if len(some) > short_files.TOGETHER or len(some) > 1 and size > short_files.OCTETS_TOGETHER]
+    count("groups that are too large", wrong[:1])
+    count_if("files together", len(groups) < len(files) // 2, len(groups))
+    count_same("no files", list(short_files.groups([])), [])
+
+
+def long_messages(make):
+    """Returns messages with a text of more than 1,200 characters in each column that may have one."""
+    algorithm = element(0x30, element(0x06, b"\x2a" + b"\x81" * 30 + b"\x01" + b"\x03" * 700))
+    by_key = element(0x80, bytes(range(256)) * 4)
+    by_serial = element(0x30, element(0x30, b"") + element(0x02, b"\x7f" * 1001))
+    signers = [element(0x30, b"\x02\x01\x03" + it + algorithm + algorithm + element(0x04, b"s")) for it in (by_key, by_serial)]
+    many = b"".join(element(0x30, b"\x02\x01\x03" + element(0x80, b"%03d" % it) + ALGORITHM + ALGORITHM + element(0x04, b"s")) for it in range(60))
+    return {"long.p7m": message(b"".join(signers), algorithm[2:] if algorithm[1] < 128 else algorithm[4:]), "findings.p7m": message(many)}
+
+
+def message(signers, content_type=element(0x06, bytes.fromhex("2a03"))):
+    fields = b"\x02\x01\x03" + element(0x31, b"") + element(0x30, content_type) + element(0x31, signers)
+    return element(0x30, bytes.fromhex("06092a864886f70d010702") + element(0xA0, element(0x30, fields)))
+
+
+def test_long_texts(archive, home, make):
+    """A text of a message that is too long for a store is cut and ends with its SHA-256, in each column, read together or not."""
+    from cms_canon_archive.short_files import reads_together
+
+    seen = set()
+    for name, octets in long_messages(make).items():
+        (home / name).write_bytes(octets)
+        entry = archive.walking.entry_of(str(home / name))
+        (together,), (alone,) = reads_together([entry]), archive.reading.reads_of(entry)
+        count_same(f"{name}, read together", without_time(together), without_time(alone))
+        rows = [together.place._asdict(), *(it._asdict() for it in together.signed_by)]
+        for column, text in ((column, text) for row in rows for column, text in row.items() if isinstance(text, str)):
+            seen |= {column} if archive.texts.is_cut(text) else set()
+            if len(text) > archive.texts.LONGEST + 68:
+                count(f"{name}, {column}", f"{len(text)} characters")
+    wanted = {"content_type", "findings", "digests", "signatures", "digest", "signature", "serial", "key_identifier"}
+    count_same("columns with texts that were cut", seen, wanted)
 
 
 def test_columns(archive):

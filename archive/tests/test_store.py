@@ -282,7 +282,8 @@ def test_changed_just_before(home, archive, make):
     entry = archive.walking.entry_of(str(folder / "doc.p7s"))
     settled = {}
     for name, changed, beside in (("now", time.time_ns(), 0), ("long ago", 1, 1), ("the content now", 1, time.time_ns())):
-        read = archive.reading.read_of(entry._replace(changed=changed, beside=f"1:{beside}:1"), archive.reading.unread(entry, "any"))
+        found = archive.reading.unread(entry, "any")
+        read = archive.reading.read_of(entry._replace(changed=changed, beside=f"1:{beside}:1"), found, archive.judging.judged(found))
         settled[name] = read.place.is_settled
     count_same("what changed just before", settled, {"now": False, "long ago": True, "the content now": False})
     command(home, "index", folder, "--store", "changing.db")

@@ -131,31 +131,26 @@ def short(path: str) -> Optional[Source]:
     return in_memory(path, octets, Budget(size), _Short)
 
 
-def found_in_path(path: str, absent: str = "") -> Iterator[Found]:
-    """Gives what is found in a file, and last the file itself. Raises `OSError` or `Unreadable` if it cannot be read.
-
-    `absent` is the path of a file beside it that is known not to be there.
-    """
+def found_in_path(path: str) -> Iterator[Found]:
+    """Gives what is found in a file, and last the file itself. Raises `OSError` or `Unreadable` if it cannot be read."""
     octets, file, size = _begun(path)
     budget = Budget(size)
     if file is None:
-        yield from _found_in(in_memory(path, octets, budget, _Short), absent)
+        yield from _found_in(in_memory(path, octets, budget, _Short))
         return
     with file:
-        yield from _found_in(Source(path, file, size, budget, is_seekable=True), absent)
+        yield from _found_in(Source(path, file, size, budget, is_seekable=True))
 
 
-def with_beside(found: Found, absent: str) -> Found:
+def with_beside(found: Found) -> Found:
     """Returns the same with the file beside it as its content, if it wants one."""
-    if not found.wants:
-        return found
-    return found.with_content(None if found.wants == absent else beside(found.wants))
+    return found.with_content(beside(found.wants)) if found.wants else found
 
 
-def _found_in(source: Source, absent: str) -> Iterator[Found]:
+def _found_in(source: Source) -> Iterator[Found]:
     size = source.size
     try:
         for it in numbered(found_in(source)):
-            yield with_beside(it, absent)
+            yield with_beside(it)
     except TooMuch as why:
         yield Found("", "file", Class.TOO_LARGE, size, note=str(why))

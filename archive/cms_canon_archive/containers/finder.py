@@ -13,7 +13,7 @@ import cms_canon
 from cms_canon._facts import Facts, facts_of
 
 from . import armour, mail, marks, named, packed, pdf, zips
-from .found import Class, Found, is_message
+from .found import KEPT, Class, Found, is_message
 from .packed import Packing
 from .sources import DEEPEST, DEEPEST_MAIL, Ended, Source, TooLarge, in_memory, is_text
 
@@ -28,7 +28,6 @@ _SIGNED_CONTENT = "signed content"
 _UTF_16 = (b"\xff\xfe", b"\xfe\xff")
 _BEGIN = b"-----BEGIN "
 _FROM = b"From "
-_KEPT = 1 << 16  # octets of a message of which is kept what it says until it is judged
 _NOTHING = (Class.TEXT, Class.NO_CANDIDATE, Class.EMPTY)  # what is not said of the content of a message
 _BEGINNINGS = {it[:2] for it in (pdf.BEGIN, *zips.MAGICS, *packed.MAGICS, *marks.BEGINNINGS)}
 _NAMES = (*zips.ENDINGS, *packed.ENDINGS, packed.TAR_ENDING)
@@ -54,7 +53,7 @@ def _found_inside(source: Source, depth: int = 0, mails: int = 0) -> Iterator[Fo
                 facts = _facts_of_data(place)
                 if facts is not None:
                     yield from _in_signed_content(place, facts, source, depth, mails)
-                place = place.opened(None if facts is None or facts.findings is None else facts)
+                place = place.opened(facts)
             holds_messages = holds_messages or place.what in (Class.MESSAGE, Class.CONTAINER)
             if place.where == "":
                 own = place
@@ -77,8 +76,7 @@ def _found_inside(source: Source, depth: int = 0, mails: int = 0) -> Iterator[Fo
 
 
 def found_alone(source: Source) -> Optional[Found]:
-    """Returns what a file that was read whole is if nothing else lies in it, as in most: a message, a text or nothing. If that is not clear at once,
-    returns None."""
+    """Returns what a short file is in which nothing else lies: a message, a text or nothing. Returns None if that is not clear at once."""
     place = seen_alone(source)
     if place is None or place.what is not Class.MESSAGE:
         return place
@@ -86,14 +84,14 @@ def found_alone(source: Source) -> Optional[Found]:
 
 
 def seen_alone(source: Source) -> Optional[Found]:
-    """Returns the same before the content that a message holds is looked into."""
-    if not source.is_whole:
+    """Returns what a short file is in which nothing else lies, unless it lies in the content of a message, which is still to be looked into."""
+    if not source.is_whole or len(source.octets()) > KEPT:
         return None
     try:
         return _by_beginning(source)
     except (Ended, MemoryError):
         raise
-    except Exception:  # which is said where the file is looked into
+    except Exception:  # which is said when the file is looked into
         return None
 
 
@@ -172,7 +170,7 @@ def _facts_of_data(place: Found) -> Optional[Facts]:
     if octets is None or not _may_hold_data(place):
         return None
     try:
-        return facts_of(octets, checks=len(octets) <= _KEPT)
+        return facts_of(octets, checks=len(octets) <= KEPT)
     except cms_canon.Refused:
         return None
 

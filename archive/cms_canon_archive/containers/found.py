@@ -47,6 +47,7 @@ class State(str, Enum):
     NO_SIGNATURE = "no signature"
 
 
+KEPT = 1 << 16  # octets of a message of which is kept what it says until it is judged, and of a file that may be known by its beginning
 GOOD = (State.FITS, State.EARLIER, State.PARTLY)
 
 
@@ -132,14 +133,12 @@ class Found(NamedTuple):
         return self._replace(note="; ".join(filter(None, (self.note, *notes))))
 
     def opened(self, facts: Optional[Facts]) -> Found:
-        """Returns the same after the content that the message holds was looked into, with what it says if it is short."""
-        return Found(*self[:-2], True, facts)
+        """Returns the same after the content that the message holds was looked into. What the message says is kept if it is short."""
+        return self._replace(is_opened=True, facts=facts if facts is not None and len(facts.der) <= KEPT else None)
 
     def with_content(self, content: Optional[Content]) -> Found:
         """Returns the same with the content that it covers, of which it needs none any more."""
-        if content is None:
-            return Found(*self[:5], None, False, None, *self[8:])
-        return self._replace(content=content, is_detached=True, wants=None)
+        return self._replace(content=content, is_detached=content is not None, wants=None)
 
 
 def numbered(found: Iterable[Found]) -> Iterator[Found]:

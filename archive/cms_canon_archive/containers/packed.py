@@ -16,7 +16,7 @@ import zlib
 from contextlib import contextmanager
 from dataclasses import replace
 from functools import cached_property
-from typing import Any, BinaryIO, Callable, Dict, Iterator, List, NamedTuple, Optional, Set, Tuple, cast
+from typing import Any, BinaryIO, Callable, Dict, Iterable, Iterator, List, NamedTuple, Optional, Set, Tuple, cast
 
 from .found import Class, Content, Found, Pieces, State
 from .names import differing, path_of
@@ -415,7 +415,7 @@ class Tar:
             for path in {name, self._replaced.targets.get(name, name)}:
                 wanted.setdefault(path, []).append(name)
         try:
-            for member, tar in self._members() if self._replaced.may_have(wanted) else ():
+            for member, tar in self._members() if self._may_have(wanted) else ():
                 path = path_of(member.name)
                 names = wanted.get(path, [])
                 if not names:
@@ -431,6 +431,10 @@ class Tar:
         except Exception:  # which was found in the first reading too
             pass
         yield from self._without_contents()
+
+    def _may_have(self, wanted: Iterable[str]) -> bool:
+        """Whether a member may have one of these paths. A packed tar is always read: its members may be more than its budget."""
+        return self._packing is not None or self._replaced.may_have(wanted)
 
     def _without_contents(self) -> Iterator[Found]:
         for name, some in self._waiting.items():

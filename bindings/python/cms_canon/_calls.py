@@ -167,7 +167,7 @@ _rooms: List[_Room] = []  # those that no call has: as many as there were calls 
 
 
 def called(function: Any, room: int, *words: object, size: int = 1) -> bytes:
-    """Calls with room for so many items of this size in octets, and once more if they are too few."""
+    """Calls with room for at least so many items of this size in octets, and once more if they are too few."""
     if room * size > _LARGE:
         return _called_with(function, room, words, size)
     try:
@@ -190,9 +190,10 @@ def called(function: Any, room: int, *words: object, size: int = 1) -> bytes:
 
 
 def _called_with(function: Any, room: int, words: Tuple[object, ...], size: int) -> bytes:
-    """Does the same with memory of its own, for what is long."""
+    """Calls in the same way, with memory that is made for this call."""
     outcome = Outcome()
     while True:
+        outcome.status = OUT_OF_MEMORY  # until the call says otherwise
         output = _memory_for(max(room, 1), size)
         function(*words, ctypes.addressof(ctypes.c_char.from_buffer(output)), room, outcome)
         if outcome.status != ROOM_TOO_SMALL:

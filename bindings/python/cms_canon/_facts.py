@@ -35,7 +35,7 @@ class Signer:
         self.signed: Dict[str, List[bytes]] = {}
         """The values of its signed attributes by their types, each one element."""
         self.unsigned: List[Tuple[str, List[bytes]]] = []
-        """The types and values of its unsigned attributes in their order. Countersignatures have none here."""
+        """The types and values of its unsigned attributes in their order. An attribute countersignature has no values here."""
         self.countersigners: List[Signer] = []
 
     @property
@@ -73,7 +73,7 @@ class Signer:
         return self.fields.get(kinds.SUBJECT_KEY_IDENTIFIER)
 
     def values_of(self, attribute: str) -> List[bytes]:
-        """Returns the list for the values of an attribute whose row came, which is signed as long as none came that is not."""
+        """Returns the list to which the values of an attribute go. The signed attributes come first."""
         if _UNSIGNED_ATTRIBUTES not in self.fields:
             return self.signed.setdefault(attribute, [])
         values: List[bytes] = []

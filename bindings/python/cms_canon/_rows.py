@@ -70,7 +70,7 @@ class Rows:
 
 
 def room_of_rows(octets: int) -> int:
-    """For how many rows of a message with so many octets there is to be room at first."""
+    """The rows for which a first call has room, if the message has so many octets."""
     return min(octets // 2 + 1, _MOST_ROWS)
 
 
