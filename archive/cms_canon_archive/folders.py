@@ -11,7 +11,7 @@ from __future__ import annotations
 
 import errno
 import os
-from typing import AbstractSet, Dict, Iterable, List, NamedTuple, Optional, Set, Tuple
+from typing import AbstractSet, Dict, Iterable, List, NamedTuple, Optional, Sequence, Set, Tuple
 
 from .containers.packed import why_of
 from .judging import judged
@@ -138,16 +138,20 @@ class Reader:
 
     def read(self, part: Held) -> Outcome:
         """Reads a part whole."""
+        outcome = Outcome(part)
+        if left := self.begin(outcome):
+            self._read_files(outcome, left)
+        return outcome
+
+    def _read_files(self, outcome: Outcome, files: Sequence[Tuple[str, Entry]]) -> None:
         from .short_files import groups, reads_together
 
-        outcome = Outcome(part)
-        for some in groups(self.begin(outcome)):
-            for (file, entry), read in zip(some, reads_together([entry for _, entry in some], part.verifies)):
+        for some in groups(files):
+            for (file, entry), read in zip(some, reads_together([entry for _, entry in some], outcome.part.verifies)):
                 if read is None:
                     self.read_file(outcome, file, entry)
                 else:
                     self.put(outcome, file, entry, (read,))
-        return outcome
 
     def begin(self, outcome: Outcome) -> List[Tuple[str, Entry]]:
         """Returns the files that are to be read of a part, each as it is named in a store and as it is; the rest is in the outcome."""
