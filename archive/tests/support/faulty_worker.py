@@ -18,8 +18,8 @@ from cms_canon_archive import folders, sessions, versions, working
 from cms_canon_archive.opening import url_of
 
 AFTER = 5  # files that are read before the fault
-_read, _stored = folders.reads_of, sessions.store
-_begun, _put = folders.Reader.begin, sessions.Session.put
+_stored, _put = sessions.store, sessions.Session.put
+_begun, _put_file = folders.Reader.begin, folders.Reader.put
 
 
 def stops():
@@ -38,13 +38,19 @@ def _reading(act):
     """Makes a fault of something that happens while a file is read."""
     files = itertools.count(1)
 
-    @_in_place_of(folders, "reads_of")
-    def read(entry, verifies):
+    @_in_place_of(folders.Reader, "put")
+    def put(self, outcome, file, entry, reads):
         if next(files) == AFTER:
             act()
-        return _read(entry, verifies)
+        _put_file(self, outcome, file, entry, reads)
 
-    return read
+    return put
+
+
+def _changing_files(change):
+    """Makes a fault of what changes what was read of each file."""
+    return _in_place_of(folders.Reader, "put")(
+        lambda self, outcome, file, entry, reads: _put_file(self, outcome, file, entry, change(entry, reads)))
 
 
 stopped_reading = _reading(stops)
@@ -93,22 +99,22 @@ def vanishing(self, outcome):
     return _begun(self, outcome)
 
 
-@_in_place_of(folders, "reads_of")
-def growing(entry, verifies):
+@_changing_files
+def growing(entry, reads):
     """A tar grows while it is read."""
-    for number, read in enumerate(_read(entry, verifies)):
+    for number, read in enumerate(reads):
         if number == 0 and entry.path.endswith("growing.tar"):
             with tarfile.open(entry.path, "a") as tar:
                 tar.addfile(tarfile.TarInfo("added.txt"))
         yield read
 
 
-@_in_place_of(folders, "reads_of")
-def a_row_that_is_refused(entry, verifies):
+@_changing_files
+def a_row_that_is_refused(entry, reads):
     """Whatever it does, it sends a row of one file that no store takes."""
-    for read in _read(entry, verifies):
+    for read in reads:
         odd = read._replace(place=read.place._replace(form="a\x1bb"))
-        yield odd if entry.path.endswith("/03/3.p7s") else read
+        yield odd if entry.path.endswith("/03/3.p7s") and read.place.error is None else read
 
 
 unread = _in_place_of(folders.Reader, "begin")(lambda self, outcome: [])  # it says that it did its parts, and reads nothing
