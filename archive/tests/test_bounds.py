@@ -37,8 +37,9 @@ LEAST = 2  # seconds that any container may take
 MANIFEST = "META-INF/MANIFEST.MF"
 READING = r"""
 import importlib, importlib.util, json, re, sys, time
-if importlib.util.find_spec("pikepdf"):  # which takes memory once
-    importlib.import_module("pikepdf")
+for name in ("pikepdf", "cms_canon.verifier"):  # which take memory once
+    if name != "pikepdf" or importlib.util.find_spec(name):
+        importlib.import_module(name)
 from cms_canon_archive import judging
 from cms_canon_archive.containers import files
 peak = lambda: int(re.search(r"VmHWM:\s*(\d+)", open("/proc/self/status").read())[1]) << 10
