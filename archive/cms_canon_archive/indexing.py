@@ -33,7 +33,7 @@ if TYPE_CHECKING:
 ROWS_TOGETHER = 4000  # rows of lines that are stored in one transaction
 MOST_SECONDS = 2.0  # after which they are stored, however few they are
 _MOST_COUNTED = 10_000  # parts: no machine begins more workers
-_READERS = (f"{__package__}.short_files", "cms_canon.verifier")  # what nearly every file needs that is read
+_READERS = (f"{__package__}.short_files", "cms_canon.verifier")  # what is needed to read nearly every file
 _POLLED = 1.0  # seconds between two looks at the store
 _TENDED = 0.5  # seconds between two looks at the processes of this machine, if none ends
 _GRACE = 10.0  # seconds without any worker after which a cluster is asked to begin again
@@ -47,7 +47,7 @@ Show = Callable[[State, Counts], None]  # shows where an index is, and what was 
 
 
 def put_in(store: Store, tops: Sequence[str], anew: bool = False, verifies: bool = False) -> int:
-    """Has the parts of these folders and files done, and done again if they are done or being done. Returns how many are to be done, if they are few."""
+    """Has the parts of these folders and files done, and done again if they are done or being done. Returns how many are to be done, at most 10,000."""
     how = {"anew": anew, "verifies": verifies}
 
     def put() -> int:

@@ -36,9 +36,9 @@ OF_A_MESSAGE = 0.3e-3  # seconds
 LEAST = 2  # seconds that any container may take
 MANIFEST = "META-INF/MANIFEST.MF"
 READING = r"""
-import importlib, importlib.util, json, re, sys, time
-for name in ("pikepdf", "cms_canon.verifier"):  # which take memory once
-    if name != "pikepdf" or importlib.util.find_spec(name):
+import contextlib, importlib, json, re, sys, time
+for name in ("pikepdf", "cms_canon.verifier", "cryptography.hazmat.backends.openssl.backend"):  # which take memory once
+    with contextlib.suppress(ModuleNotFoundError):
         importlib.import_module(name)
 from cms_canon_archive import judging
 from cms_canon_archive.containers import files
