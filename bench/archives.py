@@ -7,7 +7,7 @@ Processor time is that of all processes; that of the PostgreSQL server comes bes
 again for half as long, so that both see the same machine; the least of all rounds counts. To begin takes long whatever there is to do: so each ratio
 comes also without what the index of an empty folder takes. Then come how well several workers share the work, how time and memory grow with the
 files, what each step of a worker takes, and how long the command takes to begin. With `--profile`, a worker reads messages in one process, and the
-functions that take longest are printed. The files lie where `TMPDIR` says: in memory, if that is /dev/shm.
+functions that take longest are printed. `TMPDIR` names the folder for the files: /dev/shm keeps them in memory.
 """
 
 import argparse

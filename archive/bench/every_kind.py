@@ -1,6 +1,6 @@
 """Makes an archive of files of every kind that `cms_canon_archive` looks into, and of what lies near to one.
 
-The same seed makes the same files, but for the keys and the times of signatures, which openssl and others make anew.
+The same seed makes the same files, except for keys and signing times, which openssl and other tools make in each run.
 """
 
 import ast
@@ -113,7 +113,7 @@ def of_mails(make: Maker, random: Random, spoilt: int = 400) -> Iterator[File]:
 
 
 def of_formats(make: Maker, random: Random) -> Iterator[File]:
-    """Gives files that are known by their marks: each constant in octets of the containers begins some files, or lies where other marks do."""
+    """Gives files with the marks of formats: each octet constant of the modules for containers is at the beginning of some files, or at a fixed place."""
     yield from ((f"known/{name}", octets) for name, (octets, *_) in test_answers.NOT_READ.items())
     files = sorted((TOP / "archive" / "cms_canon_archive" / "containers").glob("*.py"))
     nodes = [node for it in files for node in ast.walk(ast.parse(it.read_text()))]

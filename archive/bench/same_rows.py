@@ -143,48 +143,48 @@ def rows_of_lines(lines: Path) -> Rows:
 class Difference(NamedTuple):
     """A column of a row that is other than it was. Of a row that only one version has, the column is empty."""
 
-    where: str
+    reading: str
     key: Key
     column: str
     old: Any
     new: Any
 
 
-def differences(where: str, old: Rows, new: Rows) -> Iterator[Difference]:
+def differences(reading: str, old: Rows, new: Rows) -> Iterator[Difference]:
     for key in sorted({*old, *new}, key=str):
         if key not in old or key not in new:
-            yield Difference(where, key, "", key in old, key in new)
+            yield Difference(reading, key, "", key in old, key in new)
             continue
         before, after = old[key], new[key]
         for column in sorted({*before, *after} - IGNORED):
             if before.get(column) != after.get(column) or (column in before) != (column in after):
-                yield Difference(where, key, column, before.get(column), after.get(column))
+                yield Difference(reading, key, column, before.get(column), after.get(column))
 
 
 def shown(difference: Difference, folder: Path) -> str:
     path, *more = difference.key
     values = map(json.dumps, (difference.old, difference.new)) if difference.column else (("not there", "there")[it] for it in (difference.old, difference.new))
-    return "\t".join([difference.where, str(path).replace(f"{folder}/", ""), *map(str, more), difference.column or "the row", *values])
+    return "\t".join([difference.reading, str(path).replace(f"{folder}/", ""), *map(str, more), difference.column or "the row", *values])
 
 
 def kind_of(difference: Difference) -> str:
     """Returns what differs without the numbers in it, so that alike differences are counted together."""
-    where, _, column, *values = difference
+    reading, _, column, *values = difference
     if not column:
-        return f"{where}: a row that only {'OLD' if difference.old else 'NEW'} has"
+        return f"{reading}: a row that only {'OLD' if difference.old else 'NEW'} has"
     texts = (it if it is None else re.sub("[0-9]+", "N", json.dumps(it))[:LONGEST_SHOWN] for it in values)
-    return f"{where}: {column}: {' -> '.join(map(str, texts))}"
+    return f"{reading}: {column}: {' -> '.join(map(str, texts))}"
 
 
 def compare(old: Dict[str, Rows], new: Dict[str, Rows], folder: Path) -> int:
     """Prints what differs, how often each column does, and which kinds of it there are, and returns how much does."""
-    some: List[Difference] = [it for where in old for it in differences(where, old[where], new[where])]
+    some: List[Difference] = [it for reading in old for it in differences(reading, old[reading], new[reading])]
     for it in some[:SHOWN]:
         print(shown(it, folder))
     if len(some) > SHOWN:
         print(f"and {len(some) - SHOWN:,} more")
-    for (where, column), count in sorted(Counter((it.where, it.column or "the row") for it in some).items()):
-        print(f"{where}: {column} differs {count:,} times")
+    for (reading, column), count in sorted(Counter((it.reading, it.column or "the row") for it in some).items()):
+        print(f"{reading}: {column} differs {count:,} times")
     for source, count in Counter(str(it.key[0]).replace(f"{folder}/", "").partition("/")[0] for it in some).most_common():
         print(f"{count:7,} of files of {source}")
     for kind, count in Counter(map(kind_of, some)).most_common(KINDS_SHOWN):
@@ -208,7 +208,7 @@ def main(words: List[str]) -> int:
         for (how, time_of_it), row in new["said"].items():
             print(f"{how}, {time_of_it}: {row['line']}")
         differing = compare(old, new, folder)
-        rows = {where: len(it) for where, it in old.items()}
+        rows = {reading: len(it) for reading, it in old.items()}
     print(f"{old_name} and {new_name}: {differing:,} differences among {sum(rows.values()):,} rows: {', '.join(f'{n:,} of {it}' for it, n in rows.items())}")
     return 1 if differing or not min(rows.values()) else 0
 

@@ -32,8 +32,8 @@ if TYPE_CHECKING:
 
 MOST_LISTED = 1000  # signers, tokens or findings of one message that are recorded
 SHORT = 1 << 13  # octets of a certificate of which is kept what it says
-_FEW = 256  # octets of findings, 16 each, of which the text is kept
-_SHORT_OID = 32  # octets of an OBJECT IDENTIFIER of which the name is kept
+_FEW = 256  # octets, 16 for a finding: the texts of no more are kept
+_SHORT_OID = 32  # octets: the names of longer OBJECT IDENTIFIERs are not kept
 SMALL = 1 << 15  # octets of content that are handed to the library: digests of more are taken piece by piece
 _F6, _F7, _F8, _F9, _F11, _F13, _F14, _F17, _F18 = 6, 7, 8, 9, 11, 13, 14, 17, 18
 _MESSAGE_DIGEST, _SIGNING_TIME = "1.2.840.113549.1.9.4", "1.2.840.113549.1.9.5"

@@ -157,7 +157,7 @@ def judged_or_not(found: Found, verifies: bool) -> Facts:
 
 
 def _of_signer(signer: Signer) -> Values:
-    """Returns the values of a signer, of which few have any that is too long. Texts that come from certificates are as a store takes them."""
+    """Returns the values of a signer, and cuts those that are too long. Texts that come from certificates are as a store takes them."""
     serial, key_identifier = signer.serial, signer.key_identifier
     if len(signer.digest) + len(signer.signature) + len(serial or key_identifier or "") <= LONGEST // 4:
         return signer
@@ -170,7 +170,7 @@ def _of_time(time: Time) -> Values:
 
 
 def read_of(entry: Entry, found: Found, facts: Facts, verifies: bool = False) -> Read:
-    """Returns what is to be stored of what was found in a file, of which this is known."""
+    """Returns what is to be stored of what was found in a file. `facts` is what is known of it."""
     note = text_of(facts.note) if facts.note else ""
     latest = max(entry.changed, int(entry.beside.split(":")[1])) if entry.beside else entry.changed
     place = Place(

@@ -442,7 +442,7 @@ class Session:
 
 
 def _values_of(connection: sa.engine.Connection, asked: Any) -> List[Any]:
-    """Returns the rows of a query as the driver has them, of which SQLAlchemy would make one object more each."""
+    """Returns the rows of a query as the driver has them. SQLAlchemy would make an object for each."""
     result = connection.execute(asked)
     rows: List[Any] = result.cursor.fetchall()
     result.close()

@@ -52,7 +52,7 @@ def groups(files: Sequence[Tuple[str, Entry]]) -> Iterator[Sequence[Tuple[str, E
 
 def reads_together(entries: Sequence[Entry], verifies: bool = False) -> List[Optional[Read]]:
     """Returns what is to be stored of each short file in which nothing else lies, and None for any other file: `reads_of` has to read it, as it does
-    one that cannot be read, or for which memory runs out here."""
+    one that cannot be read, or that is out of memory here."""
     seen = [_tried(_seen, it) for it in entries]
     said = [None if it is None else _tried(_said, it) for it in seen]
     return [None if it is None else _tried(_read, it, verifies) for it in said]

@@ -47,7 +47,7 @@ class State(str, Enum):
     NO_SIGNATURE = "no signature"
 
 
-KEPT = 1 << 16  # octets of a message of which is kept what it says until it is judged, and of a file that may be known by its beginning
+KEPT = 1 << 16  # octets: nothing is kept of what a longer message says, and no longer file is known by its beginning alone
 GOOD = (State.FITS, State.EARLIER, State.PARTLY)
 
 

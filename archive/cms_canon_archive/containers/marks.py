@@ -111,7 +111,7 @@ def _ends_of_zip(octets: bytes, size: int) -> Iterator[Tuple[int, int]]:
 
 
 def _has_mark_of_end(octets: bytes) -> bool:
-    """Whether the mark of the end of a zip lies where that may be, which costs much less than to search by a pattern."""
+    """Whether the mark of the end of a zip is among the last octets. This is much faster than a search by a pattern."""
     return octets.find(_ZIP_END, max(0, len(octets) - _LONGEST_END)) >= 0
 
 

@@ -6,14 +6,12 @@ for each signer. What is taken is that of the DER, in which each string is one p
 
 from __future__ import annotations
 
-import struct
 from typing import Dict, List, NamedTuple, Optional, Tuple
 
 from . import _kinds as kinds
 from ._calls import LIMIT, NO_DOCUMENTS, called, called_for_findings, library
-from ._rows import dotted, room_of_rows
+from ._rows import ROW, dotted, room_of_rows
 
-_ROW = struct.Struct("=QQII")  # where its octets begin, how many there are, kind, level
 _KINDS = {kinds.SIGNED_DATA: "signed-data", kinds.REQUEST: "request", kinds.RESPONSE: "response"}
 _VALUE, _ATTRIBUTE, _CERTIFICATE = kinds.VALUE, kinds.ATTRIBUTE, kinds.CERTIFICATE
 _SIGNER, _COUNTERSIGNATURE, _UNSIGNED_ATTRIBUTES = kinds.SIGNER, kinds.COUNTERSIGNATURE, kinds.UNSIGNED_ATTRIBUTES
@@ -94,7 +92,7 @@ class Facts(NamedTuple):
     content: Optional[memoryview]
     """eContent, a part of the DER; None if it is detached, or if there is no SignedData."""
     certificates: List[Tuple[int, int]]
-    """Where in the DER each certificate begins, and where it ends."""
+    """The first octet of each certificate in the DER, from 0, and the octet after its last one."""
     signers: List[Signer]
     """The signers, each right before its countersigners."""
     signer_count: int
@@ -119,7 +117,7 @@ def facts_of(octets: bytes, checks: bool, limit: int = LIMIT) -> Facts:
     Raises `Refused` if the octets are no message, and `MemoryError` if memory runs out.
     """
     der = called(library.cms_canon_convert, len(octets) + 64, octets, len(octets), limit)
-    rows = called(library.cms_canon_fields, room_of_rows(len(der)), der, len(der), limit, size=_ROW.size)
+    rows = called(library.cms_canon_fields, room_of_rows(len(der)), der, len(der), limit, size=ROW.size)
     findings = called_for_findings(library.cms_canon_check, octets, *NO_DOCUMENTS, limit) if checks else None
     fields: Dict[int, Tuple[int, int]] = {}
     certificates: List[Tuple[int, int]] = []
@@ -129,7 +127,7 @@ def facts_of(octets: bytes, checks: bool, limit: int = LIMIT) -> Facts:
     return Facts(
         der,
         findings,
-        _KINDS[_ROW.unpack_from(rows)[2]],
+        _KINDS[ROW.unpack_from(rows)[2]],
         None if content_type is None else dotted(der[content_type[0] : content_type[1]]),
         None if content is None else memoryview(der)[content[0] : content[1]],
         certificates,
@@ -143,7 +141,7 @@ def _take_rows(der: bytes, rows: bytes, fields: Dict[int, Tuple[int, int]], cert
     latest: Dict[int, Signer] = {}  # the last signer at each level
     values: List[bytes] = []
     count = 0
-    for start, length, kind, level in _ROW.iter_unpack(rows):
+    for start, length, kind, level in ROW.iter_unpack(rows):
         if kind in _OF_SIGNER:
             latest[level - 1].fields[kind] = der[start : start + length]
         elif kind == _VALUE:
@@ -172,8 +170,8 @@ def _countersigner(latest: Dict[int, Signer], level: int) -> Signer:
 
 def token_facts_of(tst_info: bytes) -> TokenFacts:
     """Returns what a TSTInfo says. Raises `Refused` with the reason 105 if it is not one in DER, and `MemoryError` if memory runs out."""
-    rows = called(library.cms_canon_tst_info_fields, room_of_rows(len(tst_info)), tst_info, len(tst_info), size=_ROW.size)
-    fields = {kind: tst_info[start : start + length] for start, length, kind, _ in _ROW.iter_unpack(rows)}
+    rows = called(library.cms_canon_tst_info_fields, room_of_rows(len(tst_info)), tst_info, len(tst_info), size=ROW.size)
+    fields = {kind: tst_info[start : start + length] for start, length, kind, _ in ROW.iter_unpack(rows)}
     return TokenFacts(
         fields[kinds.GEN_TIME].decode("ascii"),
         dotted(fields[kinds.TST_POLICY]),

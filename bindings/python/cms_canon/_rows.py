@@ -12,7 +12,7 @@ from typing import Any, Dict, Iterable, List, Optional, Tuple
 
 from cms_canon._calls import MAX_NUMBER, called
 
-_ROW = struct.Struct("=QQII")  # where its octets begin, how many there are, kind, level
+ROW = struct.Struct("=QQII")  # the place of its octets, their number, kind, level
 _PLACE = struct.Struct("=QQ")  # the first two of these
 _WORDS, _KIND, _LEVEL = 6, 4, 5  # of 32 bits: in a row, and before these two
 _MOST_ROWS = 65536  # the room of a first call
@@ -56,7 +56,7 @@ class Rows:
         return after if after < len(self.kinds) and self.kinds[after] == kind else None
 
     def octets_of(self, number: int) -> bytes:
-        start, length = _PLACE.unpack_from(self.rows, number * _ROW.size)
+        start, length = _PLACE.unpack_from(self.rows, number * ROW.size)
         return self.octets[start : start + length]
 
     def joined(self, numbers: Iterable[int]) -> bytes:
@@ -65,7 +65,7 @@ class Rows:
 
     def views_of(self, numbers: Iterable[int]) -> Tuple[memoryview, ...]:
         octets = memoryview(self.octets)
-        places = (_PLACE.unpack_from(self.rows, number * _ROW.size) for number in numbers)
+        places = (_PLACE.unpack_from(self.rows, number * ROW.size) for number in numbers)
         return tuple(octets[start : start + length] for start, length in places)
 
 
@@ -76,7 +76,7 @@ def room_of_rows(octets: int) -> int:
 
 def rows_of(function: Any, octets: bytes, *words: int) -> Rows:
     """The rows by a call: once, and once more if there are more than there was room for, as a message seldom has many."""
-    return Rows(octets, called(function, room_of_rows(len(octets)), octets, len(octets), *words, size=_ROW.size))
+    return Rows(octets, called(function, room_of_rows(len(octets)), octets, len(octets), *words, size=ROW.size))
 
 
 class OctetString:
