@@ -1,6 +1,6 @@
 """Short files in which nothing else lies, as most files are: they are read many at a time.
 
-Each step is done for all of them before the next one. So its code stays in the caches of the processor, which takes a quarter less time than to
+Each step is done for all of them before the next one. So its code stays in the caches of the processor, which takes a fifth less time than to
 read one file after another.
 """
 
