@@ -87,12 +87,28 @@ def rust_kinds() -> Iterator[str]:
         yield f"pub(crate) const {kind.name}: u32 = {kind.number};"
 
 
+def script_kinds() -> Iterator[str]:
+    yield f"// The kinds of fields of {HEADER}, `enum cms_canon_kind`. scripts/generate writes this file."
+    for kind in kinds():
+        yield f"/** {kind.meaning}. */"
+        yield f"export const {kind.name} = {kind.number};"
+
+
+def script_names() -> Iterator[str]:
+    yield f"// The names of object identifiers of {NAMES}. scripts/generate writes this file."
+    yield "export const NAMES = new Map(["
+    yield from (f'    ["{oid}", "{name}"],' for oid, name in names().items())
+    yield "]);"
+
+
 # Each file that is written, and what gives its lines. An empty line comes after the first.
 FILES = {
     "bindings/python/cms_canon/_kinds.py": python_kinds,
     "bindings/python/cms_canon/_names.py": python_names,
     "bindings/java/src/cmscanon/Kind.java": java_kinds,
     "bindings/rust/src/kinds.rs": rust_kinds,
+    "web/kinds.mjs": script_kinds,
+    "web/names.mjs": script_names,
 }
 
 

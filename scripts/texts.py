@@ -1,5 +1,6 @@
 """What repeats the tables of refusals and findings in docs/texts/: the texts of the program and its help, the manual, the documents and the packages."""
 
+import json
 import re
 import textwrap
 import tomllib
@@ -190,6 +191,9 @@ def python_texts() -> Iterator[str]:
     yield "FINDINGS = ("
     yield from (f'    "{it.name}",' for it in RULES)
     yield ")"
+    yield "MEANINGS = (  # what each finding means"
+    yield from (f"    {json_of(it.means)}," for it in RULES)
+    yield ")"
     yield "REFUSALS = {  # name, what it means, and what to do"
     for it in WHY:
         yield f"    {it.number}: ("
@@ -229,10 +233,22 @@ def rust_texts() -> Iterator[str]:
     yield "];"
 
 
+def script_texts() -> Iterator[str]:
+    yield "// The texts of refusals and findings, from docs/texts/. scripts/generate writes this file. Each is for the number that is one more than its place."
+    yield ""
+    for name, meanings in (("REFUSALS", WHY), ("FINDINGS", RULES)):
+        yield f"export const {name} = ["
+        for it in meanings:
+            words = {"name": it.name, "means": it.means, "remedy": it.remedy}
+            yield f"    {{ {', '.join(f'{key}: {json.dumps(value)}' for key, value in words.items())} }},"
+        yield "];"
+
+
 WHOLE: Dict[str, Callable[[], Iterable[str]]] = {
     "bindings/python/cms_canon/_texts.py": python_texts,
     "bindings/java/src/cmscanon/Texts.java": java_texts,
     "bindings/rust/src/texts.rs": rust_texts,
+    "web/texts.mjs": script_texts,
 }
 
 

@@ -223,10 +223,12 @@ def test_refusals(tally, tmp_path):
         tally.count(f"{name} missing", why_not_refused(run(copy / "install", target), "missing", target))
         file.write_bytes(octets)
     (folder / "tools").mkdir()
-    (folder / "tools" / "uname").write_text("#!/bin/sh\necho Linux aarch64\n")
-    (folder / "tools" / "uname").chmod(0o755)
-    ended = run(copy / "install", target, PATH=f"{folder / 'tools'}:{os.environ['PATH']}")
-    tally.count("another machine", why_not_refused(ended, "Linux aarch64", target))
+    uname = folder / "tools" / "uname"
+    for system, processor, said in (("Linux", "riscv64", "no release for riscv64"), ("Darwin", "arm64", "is for Linux, and this is Darwin arm64")):
+        uname.write_text(f"#!/bin/sh\ncase $1 in -s) echo {system} ;; -m) echo {processor} ;; *) echo {system} {processor} ;; esac\n")
+        uname.chmod(0o755)
+        ended = run(copy / "install", target, PATH=f"{folder / 'tools'}:{os.environ['PATH']}")
+        tally.count(f"another machine, {processor}", why_not_refused(ended, said, target))
     manifest = copy / DIST / "MANIFEST"
     manifest.write_text("".join(line for line in manifest.open() if not line.endswith(" libcms_canon.a\n")))
     tally.count("a sum is missing", why_not_refused(run(copy / "install", target), "libcms_canon.a ", target))

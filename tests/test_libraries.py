@@ -17,9 +17,10 @@ import shutil
 import subprocess
 
 import pytest
+from callers import C_SOURCES, SECONDS, Failed, add_counts, compare, run
 from elements import contents_of, element, message as message_of
 from field_lines import cases, word as word_of
-from library_requests import asked_of, request, requests, requests_of_deep_messages
+from library_requests import SHORT, asked_of, extents, request, requests, requests_of_deep_messages
 from needs import needs
 from programs import RELEASE, TOP, built_refusing, shortened
 from tally import fail_if
@@ -28,43 +29,11 @@ JNA = "/usr/share/java/jna.jar"
 JUNIT = "/usr/share/java/junit-platform-console-standalone.jar"
 JARS = ":".join([JNA, *(f"/usr/share/java/{it}.jar" for it in (
     "junit-jupiter-api", "junit-jupiter-params", "junit-platform-commons", "apiguardian-api", "opentest4j"))])
-C_SOURCES, PYTHON_TESTS = TOP / "tests" / "c", TOP / "bindings" / "python" / "tests"
+PYTHON_TESTS = TOP / "bindings" / "python" / "tests"
 ARCHIVE = RELEASE / "libcms_canon.a"
 WARNINGS = ["-std=c11", "-Wall", "-Wextra", "-Werror", "-g", "-I", str(RELEASE)]
 WATCHED = ["valgrind", "--quiet", "--error-exitcode=9", "--leak-check=full"]
-SHORT = 20_000  # octets: the longest requests that are also tried under valgrind
 PYTHON = shutil.which("python3")
-SECONDS = 600
-
-
-class Failed(Exception):
-    """A tool did not do what it was asked for; the text is what it printed."""
-
-
-def run(words, given="", **how):
-    ended = subprocess.run([str(word) for word in words], input=given, capture_output=True, text=True, timeout=SECONDS, **how)
-    if ended.returncode != 0:
-        raise Failed(f"`{' '.join(map(str, words))[:200]}` ended with {ended.returncode}: {(ended.stdout + ended.stderr)[-2000:]}")
-    return ended.stdout
-
-
-def compare(tally, caller, asked, words, **how):
-    """Asks a caller, and counts each answer. Returns the lines that it prints after them."""
-    lines = run(words, "".join(f"{request}\n" for _, request, _ in asked), **how).splitlines()
-    for index, (name, _, wanted) in enumerate(asked):
-        came = lines[index] if index < len(lines) else "no answer"
-        differs = came.rstrip() != wanted.rstrip()
-        tally.count(f"{caller}/{name}", f"wanted {wanted[:120]}, came {came[:120]}" if differs else "")
-    return lines[len(asked) :]
-
-
-def add_counts(tally, name, printed):
-    """Adds what a program of checks counted, whose last line is `N passed, M failed`."""
-    last = printed.splitlines()[-1] if printed else "nothing"
-    passed, _, failed = last.partition(" passed, ")
-    if not passed.isdigit() or failed != "0 failed":
-        return tally.count(name, f"it ended in {last!r}: {printed[-1000:]}")
-    tally.add(int(passed))
 
 
 # ---- C
@@ -80,16 +49,6 @@ def c(tmp_path_factory):
 
 def asked_of_c():
     return asked_of(requests(), "pieces", "lines", "jobs")
-
-
-def extents():
-    """Gives requests for the extent of each message that is converted, of which the octets come one by one, and of one that is cut."""
-    for name, asked, wanted in asked_of(requests()):
-        call, limit, octets = asked.split(" ")[:3]
-        if call == "convert" and wanted.startswith("0 ") and len(octets) <= 2 * SHORT:
-            length = len(octets) // 2
-            yield f"extent, {name}", f"extent {limit} {octets}", f"1 {length} {length}"
-            yield f"extent, {name}, and octets after it", f"extent {limit} {octets}{octets}", f"1 {length} {length}"
 
 
 @needs("gcc")

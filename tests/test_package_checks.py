@@ -14,7 +14,8 @@ import pytest
 from machines import ended
 from needs import needs
 from package_contents import contents, in_folder, inside
-from package_tools import BINARIES, CHANGELOG, DATE, DEBIAN, LIBRARIES, MODULES, PACKAGES, READ, TOP, VERSION, WHEELS, crates_of_kit, told, why_failed
+from package_tools import BINARIES, CHANGELOG, DATE, DEBIAN, DIST, EVERY_DEBIAN, EVERY_WHEEL, MODULES, NATIVE, PACKAGES, READ, TARGETS, TOP, VERSION, WHEELS
+from package_tools import crates_of_kit, told, why_failed
 from tally import differing, fail_if
 
 JNA = "/usr/share/java/jna.jar"
@@ -22,6 +23,8 @@ DER = "775ae1a53429e41657540f3eed96a76ed2cab8b85994bd7455b0c6903251161d"  # of e
 PAGE = 4096  # octets
 JAVA_17 = 61  # as a class says it
 OLDEST_GLIBC = (2, 17)  # that the name of the wheel promises
+# What the start of a program asks for: that of the C library, on ARM with `abort`, and on x86-64 the kit's, which refuses a processor that is too old.
+OF_START = {"__libc_start_main", "__cxa_finalize", "abort", "__write", "__x86_get_cpuid_feature_leaf"}
 OWN = {*sys.stdlib_module_names, "cms_canon"}  # what a package imports without asking for others
 
 pytestmark = pytest.mark.tree
@@ -52,10 +55,9 @@ def test_dates(found):
     fail_if(differing([], other[:5]))
 
 
-@pytest.mark.parametrize("package", DEBIAN)
-def test_debian(tally, found, package):
-    expected = DEBIAN[package]
-    name = f"{package}_{VERSION}-1_{expected['architecture']}.deb"
+@pytest.mark.parametrize("name", EVERY_DEBIAN)
+def test_debian(tally, found, name):
+    package, expected = EVERY_DEBIAN[name]
     own, documents = inside(found, name), [f"usr/share/doc/{package}/{it}" for it in ("copyright", "changelog.Debian.gz", "changelog.gz")]
     links, modules = expected.get("links", {}), expected_modules(expected["modules"]) if "modules" in expected else {}
     wanted = {**expected["files"], **links, **dict.fromkeys(documents, ""), **{f"{MODULES}/{path}": source for path, source in modules.items()}}
@@ -102,20 +104,38 @@ def test_texts(tally, found):
     for page in ("cms-canon", "cms-canon-archive"):
         text = found[f"{page}_{VERSION}-1_{DEBIAN[page]['architecture']}.deb!usr/share/man/man1/{page}.1.gz"].octets.decode()
         tally.count(f"manual of {page}", "" if f'.TH {page.upper()} 1 "" "cms-canon {VERSION}" "User Commands"\n' in text else "no version")
-    config = found[f"libcms-canon-dev_{VERSION}-1_amd64.deb!{LIBRARIES}/pkgconfig/cms_canon.pc"].octets.decode()
-    lines = {"prefix=/usr", "libdir=${prefix}/lib/x86_64-linux-gnu", f"Version: {VERSION}"}
-    tally.count("pkg-config", differing([], sorted(lines - {*config.splitlines()})))
+    for target in READ["targets"].values():
+        libraries, name = target["LIBRARIES"], f"libcms-canon-dev_{VERSION}-1_{target['ARCHITECTURE']}.deb"
+        config = found[f"{name}!usr/lib/{libraries}/pkgconfig/cms_canon.pc"].octets.decode()
+        lines = {"prefix=/usr", f"libdir=${{prefix}}/lib/{libraries}", f"Version: {VERSION}"}
+        tally.count(f"{name}: pkg-config", differing([], sorted(lines - {*config.splitlines()})))
 
 
 @needs("readelf")
-def test_symbols(tally, found):
-    named = re.search(r"SONAME\).*\[(.*)\]", ended(["readelf", "-dW", BINARIES / "libcms_canon.so"]).output)
+@pytest.mark.parametrize("target", TARGETS)
+def test_symbols(tally, found, target):
+    library, package = DIST / target / "libcms_canon.so", f"libcms-canon0_{VERSION}-1_{READ['targets'][target]['ARCHITECTURE']}.deb"
+    named = re.search(r"SONAME\).*\[(.*)\]", ended(["readelf", "-dW", library]).output)
     tally.count("name of the library for the loader", differing("libcms_canon.so.0", named and named[1]))
-    shlibs = found[f"libcms-canon0_{VERSION}-1_amd64.deb!DEBIAN/shlibs"].octets
+    shlibs = found[f"{package}!DEBIAN/shlibs"].octets
     tally.count("name of the library for dpkg", differing(b"libcms_canon 0 libcms-canon0\n", shlibs))
-    listed = re.findall(r"^ (\w+)@Base", found[f"libcms-canon0_{VERSION}-1_amd64.deb!DEBIAN/symbols"].octets.decode(), re.M)
-    shown = ended(["readelf", "--dyn-syms", "-W", BINARIES / "libcms_canon.so"]).output
+    listed = re.findall(r"^ (\w+)@Base", found[f"{package}!DEBIAN/symbols"].octets.decode(), re.M)
+    shown = ended(["readelf", "--dyn-syms", "-W", library]).output
     tally.count("symbols of the library", differing(sorted(re.findall(r"GLOBAL +DEFAULT +\d+ (\w+)$", shown, re.M)), sorted(listed)))
+
+
+@needs("readelf")
+def test_same_of_the_system(tally):
+    """Checks that the binaries for each target ask the system for the same functions."""
+    for name in ("cms-canon", "libcms_canon.so"):
+        asked = {}
+        for target in TARGETS:
+            shown = ended(["readelf", "--dyn-syms", "-W", DIST / target / name]).output
+            asked[target] = {*re.findall(r" UND (\w+)@GLIBC", shown)} - OF_START
+        first = asked[NATIVE]
+        tally.count(f"{name}: it asks for functions", "" if {"malloc", "free"} <= first else f"{first}")
+        for target, others in asked.items():
+            tally.count(f"{name}: what it asks for on {target}", differing(sorted(first), sorted(others)))
 
 
 def imports_of(file, whole):
@@ -189,12 +209,16 @@ def about(wheel, name):
 
 
 def test_names_of_wheels():
-    fail_if(differing(sorted(WHEELS), sorted(it.name for it in PACKAGES.glob("*.whl"))))
+    fail_if(differing(sorted(EVERY_WHEEL), sorted(it.name for it in PACKAGES.glob("*.whl"))))
 
 
-@pytest.mark.parametrize("name", WHEELS)
+def test_names_of_debian():
+    fail_if(differing(sorted(EVERY_DEBIAN), sorted(it.name for it in PACKAGES.glob("*.deb"))))
+
+
+@pytest.mark.parametrize("name", EVERY_WHEEL)
 def test_wheel(tally, found, name):
-    wheel, own = WHEELS[name], {path: it.octets for path, it in inside(found, name).items()}
+    (target, wheel), own = EVERY_WHEEL[name], {path: it.octets for path, it in inside(found, name).items()}
     modules = expected_modules(wheel["modules"])
     told_of = {about(wheel, it) for it in ("METADATA", "WHEEL", "RECORD", "LICENSE-APACHE", "LICENSE-MIT", *wheel["beside"])}
     tally.count(f"{name}: files", differing([], sorted({*modules, *wheel["made"], *told_of} ^ {*own})))
@@ -221,7 +245,7 @@ def test_wheel(tally, found, name):
     tally.count(f"{name}: RECORD", differing(sorted([*right, [about(wheel, "RECORD"), "", ""]]), sorted(lines)))
     for path in libraries:
         library = own[path]
-        tally.count(f"{name}: library", "" if library == source_of("dist/x86_64-linux/libcms_canon.so") else "it is another one")
+        tally.count(f"{name}: library", "" if library == source_of(f"dist/{target}/libcms_canon.so") else "it is another one")
         versions = {tuple(map(int, it.split(b"."))) for it in re.findall(rb"\bGLIBC_(\d+(?:\.\d+)+)\0", library)}
         newest = max(versions, default=(99,))
         tally.count("glibc that the wheel asks for", "" if newest <= OLDEST_GLIBC else f"{newest}, and its name promises {OLDEST_GLIBC}")
@@ -240,8 +264,9 @@ def test_jar(tally, found):
     tally.count("classes in the jar", differing([], sorted({it.replace(".java", ".class") for it in sources} - {*classes})))
     versions = {int.from_bytes(octets[6:8], "big") for path, octets in classes.items() if path.endswith(".class")}
     tally.count("version of the classes", differing({JAVA_17}, versions))
-    library = classes.get("linux-x86-64/libcms_canon.so")
-    tally.count("library in the jar", "" if library == source_of("dist/x86_64-linux/libcms_canon.so") else "it is another one, or none")
+    for target, names in READ["targets"].items():
+        library = classes.get(f"{names['JNA']}/libcms_canon.so")
+        tally.count(f"library in the jar for {target}", "" if library == source_of(f"dist/{target}/libcms_canon.so") else "it is another one, or none")
     public = {it.replace(".java", ".html") for it in sources if b"\npublic " in sources[it]}
     tally.count("pages of javadoc", differing([], sorted(public - {*pages})))
     pom = (PACKAGES / f"cms-canon-{VERSION}.pom").read_text(encoding="utf-8")
@@ -288,7 +313,7 @@ def test_crate_alone(tally, tmp_path):
     with tarfile.open(PACKAGES / f"cms-canon-{VERSION}.crate") as archive:
         names = {it.name.partition("/")[2] for it in archive.getmembers()}
         subprocess.run(["tar", "-xzf", archive.name, "-C", tmp_path], check=True)
-    wanted = {"LICENSE-APACHE", "LICENSE-MIT", "THIRD-PARTIES", "README.md", "build.rs", "lib/libcms_canon.a", "examples/message.ber",
+    wanted = {"LICENSE-APACHE", "LICENSE-MIT", "THIRD-PARTIES", "README.md", "build.rs", *(f"lib/{it}/libcms_canon.a" for it in TARGETS), "examples/message.ber",
               *(it.relative_to(TOP / "bindings/rust").as_posix() for it in (TOP / "bindings/rust").glob("[se]*/*.rs"))}
     tally.count("files of the crate", differing([], sorted(wanted - names)))
     tally.count("no commit in the crate", "" if ".cargo_vcs_info.json" not in names else "it names one")
@@ -301,6 +326,40 @@ def test_crate_alone(tally, tmp_path):
     how["env"] = {**environment, "CMS_CANON_LIB_DIR": str(tmp_path / "nowhere")}
     done = ended(run_example, **how)
     tally.count("CMS_CANON_LIB_DIR before the crate's own", "" if done.status != 0 and "nowhere/libcms_canon.a" in done.error else told(done))
+
+
+# What cargo says of a target: processor, system, order of octets, bits of a pointer; and the folder of the library, if there is one for it.
+RUST_TARGETS = {
+    ("x86_64", "linux", "little", "64"): "x86_64-linux",
+    ("aarch64", "linux", "little", "64"): "aarch64-linux",
+    ("x86_64", "linux", "little", "32"): None,
+    ("aarch64", "linux", "big", "64"): None,
+    ("aarch64", "android", "little", "64"): None,
+    ("aarch64", "macos", "little", "64"): None,
+    ("riscv64", "linux", "little", "64"): None,
+}
+
+
+@needs("rustc")
+def test_targets_of_the_crate(tally, tmp_path):
+    """Runs the build script of the crate for several targets: it links the library for each, and refuses those without one."""
+    crate = TOP / "bindings" / "rust"
+    build = ["rustc", "--edition", "2021", "-o", tmp_path / "build", crate / "build.rs"]
+    tally.count("build.rs", why_failed(ended(build, env={**os.environ, "CARGO_MANIFEST_DIR": str(crate)})))
+    for target, folder in RUST_TARGETS.items():
+        said = {f"CARGO_CFG_TARGET_{name}": value for name, value in zip(("ARCH", "OS", "ENDIAN", "POINTER_WIDTH"), target)}
+        done = ended([tmp_path / "build"], env={"PATH": os.environ["PATH"], "TARGET": "-".join(target), **said})
+        is_well = f"/dist/{folder}\n" in done.output if folder else done.status != 0 and "-".join(target) in done.error and not done.output
+        tally.count(f"build.rs for {target}", "" if is_well else told(done))
+
+
+@pytest.mark.parametrize("machine", ["riscv64", "armv7l"])
+def test_wheel_of_another_machine(machine):
+    """Asks pip's hook for a wheel on a machine without a library."""
+    script = (f"import os, sys; sys.path.insert(0, 'packaging'); os.uname = lambda: os.uname_result(('Linux', '', '', '', {machine!r})); "
+              "from packages import python; python.build_wheel(python.BINDING, '.')")
+    done = ended([sys.executable, "-c", script], cwd=TOP)
+    fail_if("" if done.status != 0 and f"and this is {machine}-linux" in done.error and "Traceback" not in done.error else told(done))
 
 
 @needs("lintian")

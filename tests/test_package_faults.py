@@ -1,5 +1,6 @@
 """Has binaries, tools, the disk and whoever makes packages misbehave."""
 
+import itertools
 import os
 import re
 import resource
@@ -13,11 +14,12 @@ import pytest
 from elements import flipped
 from machines import ended, tools_without
 from package_contents import in_folder
-from package_tools import DIST, NO_TOOL, PACKAGES, TOP, VERSION, copy_of_repository, package, told, why_failed
+from package_tools import DIST, NO_TOOL, PACKAGES, TARGETS, TOP, VERSION, copy_of_repository, package, told, why_failed
 from tally import differing
 
 pytestmark = pytest.mark.tree
 
+MADE = ["SHA256SUMS", "cms-canon.html", "packages"]
 MOMENT, MOMENTS = 0.1, 100  # seconds, and how many of them are waited for at most
 
 
@@ -49,34 +51,49 @@ def to(tmp_path):
     to = tmp_path / "to"
     to.mkdir()
     shutil.copytree(PACKAGES, to / "packages")
-    shutil.copy(DIST / "SHA256SUMS", to)
+    for name in ("SHA256SUMS", "cms-canon.html"):
+        shutil.copy(DIST / name, to)
     yield to
-    assert sorted(it.name for it in to.iterdir()) == ["SHA256SUMS", "packages"], "something is left beside them"
+    assert sorted(it.name for it in to.iterdir()) == MADE, "something is left beside them"
 
 
 def test_damage(tally, copy, to):
-    before, binaries = state_of(to), copy / "dist" / "x86_64-linux"
-    for name in ("cms-canon", "cms_canon.h", "libcms_canon.a", "libcms_canon.so"):
-        octets = (binaries / name).read_bytes()
-        (binaries / name).write_bytes(flipped(octets, 100))
-        tally.count(f"{name} altered", why_not_refused(package(copy, to), 70, f"{name} is not the one", to, before))
-        (binaries / name).unlink()
-        tally.count(f"{name} missing", why_not_refused(package(copy, to), 70, f"{name} cannot be read", to, before))
-        (binaries / name).write_bytes(octets)
-    manifest = (binaries / "MANIFEST").read_text(encoding="ascii")
+    before = state_of(to)
+    for target, name in itertools.product(TARGETS, ("cms-canon", "cms_canon.h", "libcms_canon.a", "libcms_canon.so")):
+        file = copy / "dist" / target / name
+        octets = file.read_bytes()
+        file.write_bytes(flipped(octets, 100))
+        tally.count(f"{target}/{name} altered", why_not_refused(package(copy, to), 70, f"{target}/{name} is not the one", to, before))
+        file.unlink()
+        tally.count(f"{target}/{name} missing", why_not_refused(package(copy, to), 70, f"{target}/{name} cannot be read", to, before))
+        file.write_bytes(octets)
+    for name in ("cms_canon.wasm", "MANIFEST"):
+        octets = (copy / "dist" / "wasm32" / name).read_bytes()
+        (copy / "dist" / "wasm32" / name).write_bytes(flipped(octets, 3))
+        tally.count(f"wasm32/{name} altered", why_not_refused(package(copy, to), 70, "", to, before))
+        (copy / "dist" / "wasm32" / name).unlink()
+        tally.count(f"wasm32/{name} missing", why_not_refused(package(copy, to), 70, f"wasm32/{name} cannot be read", to, before))
+        (copy / "dist" / "wasm32" / name).write_bytes(octets)
+    manifests = {copy / "dist" / it / "MANIFEST": (DIST / it / "MANIFEST").read_text(encoding="ascii") for it in TARGETS}
     (copy / "crates.txt").write_text((TOP / "crates.txt").read_text(encoding="ascii") + "cms_new: unheard\n", encoding="ascii")
-    for name, text, said in (
-        ("a MANIFEST without a sum", re.sub(r"^.* libcms_canon\.a\n", "", manifest, flags=re.M), "libcms_canon.a is not the one"),
-        ("a MANIFEST without a version", re.sub(r"^version: .*\n", "", manifest, flags=re.M), "has no line `version:`"),
-        ("a version without a date", re.sub(r"^version: .*$", "version: 99.0.0", manifest, flags=re.M), "`## 99.0.0 - YEAR-MONTH-DAY`"),
-        ("a crate of the kit that is not known", manifest.replace("crates: ", "crates: cms_new "), "does not have the crate unheard"),
-        ("an empty MANIFEST", "", "cms-canon is not the one"),
-        ("a MANIFEST of other octets", "\x80", "is no text in ASCII"),
+    for name, pattern, text, said in (
+        ("a MANIFEST without a sum", r"^.* libcms_canon\.a\n", "", "libcms_canon.a is not the one"),
+        ("a MANIFEST without a version", r"^version: .*\n", "", "has no line `version:`"),
+        ("a version without a date", r"^version: .*$", "version: 99.0.0", "`## 99.0.0 - YEAR-MONTH-DAY`"),
+        ("a crate of the kit that is not known", r"^crates: ", "crates: cms_new ", "does not have the crate unheard"),
+        ("an empty MANIFEST", r"(?s).*", "", "cms-canon is not the one"),
+        ("a MANIFEST of other octets", r"(?s)\A.*", "\x80", "is no text in ASCII"),
     ):
-        (binaries / "MANIFEST").write_text(text, encoding="latin-1")
+        for file, manifest in manifests.items():
+            file.write_text(re.sub(pattern, text, manifest, flags=re.M), encoding="latin-1")
         tally.count(name, why_not_refused(package(copy, to), 70, said, to, before))
     shutil.copy(TOP / "crates.txt", copy)
-    (binaries / "MANIFEST").write_text(manifest, encoding="ascii")
+    for line, other in (("version", "0.22.0"), ("kit", "another"), ("crates", "cms_tlv"), ("sources", "00")):
+        for file, manifest in manifests.items():
+            file.write_text(manifest, encoding="ascii")
+        file.write_text(re.sub(rf"^{line}: .*$", f"{line}: {other}", manifest, flags=re.M), encoding="ascii")
+        tally.count(f"MANIFESTs that differ in {line}", why_not_refused(package(copy, to), 70, f"differ in the line `{line}:`", to, before))
+    file.write_text(manifest, encoding="ascii")
     cargo = copy / "bindings" / "rust" / "Cargo.toml"
     text = cargo.read_text(encoding="utf-8")
     cargo.write_text(text.replace(f'version = "{VERSION}"', 'version = "9.9.9"'), encoding="utf-8")
@@ -86,7 +103,7 @@ def test_damage(tally, copy, to):
 
 def test_tools(tally, copy, to, tmp_path):
     before = state_of(to)
-    for tool in ("dpkg-deb", "javac", "javadoc", "cargo"):
+    for tool in ("dpkg-deb", "javac", "javadoc", "cargo", "esbuild"):
         done = package(copy, to, env={**os.environ, "PATH": str(tools_without(tmp_path / f"without {tool}", tool))})
         tally.count(f"without {tool}", why_not_refused(done, 69, f"{tool} is missing: apt-get install", to, before))
     done = package(copy, to, env={**os.environ, "CMS_CANON_JNA": "/nowhere/jna.jar"})
@@ -106,14 +123,14 @@ def test_disk(tally, copy, to, tmp_path):
     tally.count("a folder that is a file", why_not_refused(package(copy, to / "SHA256SUMS"), 70, "cannot be written to", to, before))
     if os.geteuid() != 0 or ended(["unshare", "--mount", "true"]).status != 0:
         return tally.skip("a full disk, and a file system that is read-only", "they need root and unshare")
-    words = 'mount -t tmpfs -o size=3m tmpfs "$1" && cp -rp "$2/." "$1" && "$3" "$4/scripts/package" "$4/dist/x86_64-linux" "$1"; echo $?'
+    words = 'mount -t tmpfs -o size=8m tmpfs "$1" && cp -rp "$2/." "$1" && "$3" "$4/scripts/package" "$4/dist" "$1"; echo $?'
     small = tmp_path / "small"
     small.mkdir()
     kept = f'{words}; cd "$1" && sha256sum --check --quiet --ignore-missing SHA256SUMS && ls -A'
     done = ended(["unshare", "--mount", "sh", "-c", kept, "sh", small, to, sys.executable, copy])
-    is_well = done.output == "70\nSHA256SUMS\npackages\n" and done.error.startswith("package: ") and "Traceback" not in done.error
+    is_well = done.output == "\n".join(["70", *MADE, ""]) and done.error.startswith("package: ") and "Traceback" not in done.error
     tally.count("a full disk", "" if is_well else told(done))
-    read_only = 'mount --bind "$2" "$2" && mount -o remount,bind,ro "$2" && "$3" "$4/scripts/package" "$4/dist/x86_64-linux" "$2"'
+    read_only = 'mount --bind "$2" "$2" && mount -o remount,bind,ro "$2" && "$3" "$4/scripts/package" "$4/dist" "$2"'
     done = ended(["unshare", "--mount", "sh", "-c", read_only, "sh", small, to, sys.executable, copy])
     tally.count("a file system that is read-only", why_not_refused(done, 70, "cannot be written to", to, before))
 
@@ -130,7 +147,7 @@ def heed_stops():
 def test_stop(tally, copy, to):
     """Stops the making of packages at several moments, as a shell or a machine that is shut down does."""
     before = state_of(to)
-    words = [sys.executable, copy / "scripts" / "package", copy / "dist" / "x86_64-linux", to]
+    words = [sys.executable, copy / "scripts" / "package", copy / "dist", to]
     for moment, stop in enumerate(STOPS):
         running = subprocess.Popen(words, stdout=subprocess.DEVNULL, stderr=subprocess.DEVNULL, preexec_fn=heed_stops)
         waited = 0
@@ -145,4 +162,4 @@ def test_stop(tally, copy, to):
     done = package(copy, to)
     same = in_folder(to / "packages") if done.status == 0 else {}
     tally.count("made after all these", why_failed(done) or ("" if {*same} == {*in_folder(PACKAGES)} else "other files"))
-    tally.count("nothing left beside them", differing(["SHA256SUMS", "packages"], sorted(it.name for it in to.iterdir())))
+    tally.count("nothing left beside them", differing(MADE, sorted(it.name for it in to.iterdir())))

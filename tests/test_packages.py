@@ -54,9 +54,9 @@ def test_made_again(tally, made_again):
         tally.count(f"octets/{name}", "" if kept[name] == made[name] else f"it is not what is made of these sources: {FIX}")
     why = difference(kept, made, others)
     tally.count("what is in the packages", f"{why}: {FIX}" if why else "")
-    if not others:
-        sums = (made_again / "SHA256SUMS").read_bytes()
-        tally.count("octets/SHA256SUMS", "" if sums == (DIST / "SHA256SUMS").read_bytes() else f"it is not that of these: {FIX}")
+    for name in () if others else ("SHA256SUMS", "cms-canon.html"):
+        same = (made_again / name).read_bytes() == (DIST / name).read_bytes()
+        tally.count(f"octets/{name}", "" if same else f"it is not what is made of these sources: {FIX}")
 
 
 def rebuilt(octets, change, folder):
@@ -130,7 +130,7 @@ def test_install(tally, tmp_path):
         tally.count(f"INSTALL.md, {title}: left over", differing([], machine.left_over()))
     if isinstance(machine, Debian):
         # All packages for Debian are installed at once, verified by dpkg, and purged.
-        done = machine.run("sudo apt-get install ./dist/packages/*.deb")
+        done = machine.run("sudo apt-get install ./dist/packages/*_amd64.deb ./dist/packages/*_all.deb")
         tally.count("all packages at once", why_failed(done))
         verified = machine.run(f"dpkg --verify {' '.join(DEBIAN)}\n/sbin/ldconfig -p | grep -c libcms_canon.so.0")
         tally.count("dpkg --verify", why_failed(verified) or differing("1\n", verified.output))

@@ -1,11 +1,12 @@
 """Compares what is released, in dist/, with what was just proved and built, and tries ./cms-canon as a fresh clone has it.
 
 --built=FOLDER names a copy of this repository in which the crates were proved and built. What a release of it would be is written to
-out/candidate, from where scripts/release takes it.
+out/candidate, from where scripts/release takes it. For other processors than this one's the last crates are checked and compiled here, by
+scripts/cross, and of that scripts/module makes the WebAssembly module.
 
-- dist/ is made from these sources, and each of its files has the SHA-256 that its MANIFEST names.
-- If the kit, `strip` and `objcopy` are those that made dist/, each file is that of the candidate, octet for octet. Else a line says
-  so, and the released program is tried with the vectors.
+- For each target dist/ is made from these sources, and each of its files has the SHA-256 that its MANIFEST names.
+- If the kit, `strip`, `objcopy` and what is linked with are those that made dist/, each file is that of the candidate, octet for octet. Else a
+  line says so, and the released program is tried with the vectors.
 - README.md has no number left to fill in.
 - In a copy of the repository, with no `rt` on the PATH, ./cms-canon answers at once; it does not run a released program that was
   altered or that is made from other sources. What it does around a build is tried with a command `rt` that proves nothing.
@@ -22,14 +23,17 @@ import pytest
 from checked_crates import Crate
 from machines import tools_without
 from packages.crates import crates_in
+from packages.targets import NATIVE, TARGETS
 from programs import RELEASE, SMALLEST, TOP, octets_of, read_vectors
 from tally import count, fail_if
 
 pytestmark = pytest.mark.release
 
-CANDIDATE = TOP / "out" / "candidate"
+DIST, CANDIDATE = TOP / "dist", TOP / "out" / "candidate"
+MODULE = "wasm32"  # its folder
+NO_TOOL = 69  # the status of scripts/cross and scripts/module
 AGAIN = "run scripts/release and commit dist/"
-PARTS = ("cms-canon", "scripts", "bindings", "crates.txt", "crates", "dist")  # what ./cms-canon rests on
+PARTS = ("cms-canon", "scripts", "bindings", "crates.txt", "crates", "dist", "runtime")  # what ./cms-canon rests on
 AT_ONCE = 1.0  # seconds
 ATTEMPTS = 10  # since a disk that is busy can take longer than that
 VECTOR = read_vectors()[SMALLEST]
@@ -49,24 +53,38 @@ def values_of(manifest):
 
 # ---- dist/ and the candidate
 
-def assembled(built):
+def build_library(built):
+    """Builds the library for C over the libraries that `rt ci` built: of a static library it proves all and builds nothing."""
+    kit = Path(run("rt", "doc").stdout.decode().strip()).parent
+    rattle, _, *words = Crate("cms_c", crates_in(TOP / "crates.txt"), built, kit).words
+    how = ["--links", "cms_c=", "--crate-type", "staticlib", "--toolchain", kit / "toolchain", "--backend", "llvm"]
+    return run(rattle, "build", *words, *how, "-o", "out/libcms_c.a", cwd=built / "crates" / "cms_c", stdin=subprocess.DEVNULL)
+
+
+def assembled(built, target, tally):
+    """Makes the candidate for a target, and returns what its MANIFEST says, or nothing."""
     for crate in (TOP / "crates").iterdir():
         for part in ("src", "specs", "proofs"):
             if (built / "crates" / crate.name).exists() and (crate / part).exists():
                 if run("diff", "-rq", crate / part, built / "crates" / crate.name / part).returncode != 0:
                     return count("candidate", f"{crate.name}/{part} was edited while it was proved")
-    # The library for C is built over the libraries that `rt ci` built: of a static library it proves all and builds nothing.
-    kit = Path(run("rt", "doc").stdout.decode().strip()).parent
-    rattle, _, *words = Crate("cms_c", crates_in(TOP / "crates.txt"), built, kit).words
-    how = ["--links", "cms_c=", "--crate-type", "staticlib", "--toolchain", kit / "toolchain", "--backend", "llvm"]
-    archive = run(rattle, "build", *words, *how, "-o", "out/libcms_c.a", cwd=built / "crates" / "cms_c", stdin=subprocess.DEVNULL)
-    shutil.rmtree(CANDIDATE, ignore_errors=True)
-    made = run(TOP / "scripts" / "assemble", built, CANDIDATE)
-    if archive.returncode != 0 or made.returncode != 0:
-        said = (archive.stdout + archive.stderr + made.stderr).decode(errors="replace")[-1000:]
-        return count("candidate", f"status {archive.returncode} of the library, {made.returncode} of scripts/assemble: {said}")
+    shutil.rmtree(CANDIDATE / target, ignore_errors=True)
+    for step in steps_for(target):
+        made = step(built)
+        if made.returncode == NO_TOOL:
+            return tally.skip("candidate", made.stderr.decode().strip())
+        if made.returncode != 0:
+            return count("candidate", f"status {made.returncode} of {made.args}: {(made.stdout + made.stderr).decode(errors='replace')[-1000:]}")
     count("candidate")
-    return values_of(CANDIDATE / "MANIFEST")
+    return values_of(CANDIDATE / target / "MANIFEST")
+
+
+def steps_for(target):
+    """Returns what makes the candidate for a target, each with what was built. The module is made of what was compiled for ARM."""
+    if target == MODULE:
+        return [lambda built: run(TOP / "scripts" / "module", built, CANDIDATE / target)]
+    compile_for = build_library if target == NATIVE else lambda built: run(TOP / "scripts" / "cross", built)
+    return [compile_for, lambda built: run(TOP / "scripts" / "assemble", target, built, CANDIDATE / target)]
 
 
 def test_readme():
@@ -74,29 +92,36 @@ def test_readme():
     fail_if("EDITS is still where a number is to be filled in" if is_left else "")
 
 
-def test_released(built, tally):
-    candidate = assembled(built)
-    if not (RELEASE / "MANIFEST").exists():
-        return count("released", f"there is no {RELEASE / 'MANIFEST'}: {AGAIN}")
-    values, digests = values_of(RELEASE / "MANIFEST")
+def try_released(built):
+    """Tries the released program with the vectors."""
+    words = ["-m", "pytest", "-q", "tests/test_vectors.py", f"--program={RELEASE / 'cms-canon'}", f"--built={built}"]
+    ended = run(sys.executable, *words, cwd=TOP)
+    last = ended.stdout.decode().splitlines()[-1:]
+    counted = re.fullmatch(r"[1-9]\d* passed, 0 failed.*", last[0] if last else "")
+    count("vectors on the released program", "" if counted and ended.returncode == 0 else f"status {ended.returncode}, ended in {last}")
+
+
+@pytest.mark.parametrize("target", [*TARGETS, MODULE])
+def test_released(built, tally, target):
+    candidate, released = assembled(built, target, tally), DIST / target
+    if not (released / "MANIFEST").exists():
+        return count("released", f"there is no {released / 'MANIFEST'}: {AGAIN}")
+    values, digests = values_of(released / "MANIFEST")
     for name in digests:
-        kept = run("sha256sum", RELEASE / name).stdout.decode().split(" ")[0]
+        kept = run("sha256sum", released / name).stdout.decode().split(" ")[0]
         count(f"released/{name}", "" if kept == digests[name] else f"its SHA-256 is not that of its MANIFEST: {AGAIN}")
     if candidate is None:
         return
     made, made_digests = candidate
     count("sources", "" if made["sources"] == values["sources"] else f"dist/ is made from other sources: {AGAIN}")
-    tools = [it for it in ("kit", "strip", "objcopy") if made[it] != values.get(it)]
+    count("what is linked", "" if made.get("runtime") == values.get("runtime") else f"dist/ is made with other C: {AGAIN}")
+    tools = [it for it in ("kit", "strip", "objcopy", "libc", "libgcc", "binaryen") if made.get(it) != values.get(it)]
     if tools:
-        tally.skip("octets", "dist/ is made with " + "; ".join(f"{values.get(it)}, and this is {made[it]}" for it in tools))
-        words = ["-m", "pytest", "-q", "tests/test_vectors.py", f"--program={RELEASE / 'cms-canon'}", f"--built={built}"]
-        ended = run(sys.executable, *words, cwd=TOP)
-        last = ended.stdout.decode().splitlines()[-1:]
-        counted = re.fullmatch(r"[1-9]\d* passed, 0 failed.*", last[0] if last else "")
-        count("vectors on the released program", "" if counted and ended.returncode == 0 else f"status {ended.returncode}, ended in {last}")
+        tally.skip("octets", "dist/ is made with " + "; ".join(f"{values.get(it)}, and this is {made.get(it)}" for it in tools))
+        return try_released(built) if target == NATIVE else None
     count("files", "" if {*digests} == {*made_digests} else f"the files of dist/ are not those of a release: {AGAIN}")
     for name in sorted({*digests} & {*made_digests}):
-        same = (RELEASE / name).read_bytes() == (CANDIDATE / name).read_bytes()
+        same = (released / name).read_bytes() == (CANDIDATE / target / name).read_bytes()
         count(f"octets/{name}", "" if same else f"the file in dist/ is not what was proved and built: {AGAIN}")
 
 

@@ -6,24 +6,31 @@ import errno
 import os
 import sys
 import time
-from functools import partial
+from contextlib import contextmanager, nullcontext
+from functools import partial, wraps
+from itertools import islice
 from pathlib import Path
-from typing import TYPE_CHECKING, Any, Dict, Iterable, Iterator, List, Optional, Sequence, Tuple
+from typing import TYPE_CHECKING, Any, Callable, Dict, Iterable, Iterator, List, Optional, Sequence, Tuple, TypeVar
 
 import click
 
-from .faults import line_of
+from .faults import Complaint, line_of
 from .options import PATIENCE, TOGETHER, Options
 
 if TYPE_CHECKING:
     from .digests import Group
     from .exporting import Copied
+    from .filters import Filters
+    from .one_file import Verification
+    from .queries import Totals
     from .reading import Row
     from .store import Store
     from .watching import Watch
 
+_Item = TypeVar("_Item")
 DEFAULT_STORE = "index.db"
 HELP = {"help_option_names": ["-h", "--help"]}
+_LARGEST_LIMIT = 1 << 40  # octets
 _LOOKED_AT = 1.0  # seconds between the two looks by which files are counted a second
 _LOOKED_FOR = 0.5  # seconds between two looks for an index
 
@@ -31,11 +38,73 @@ _store = click.option("--store", "url", default=DEFAULT_STORE, show_default=True
 _wait = click.option("--wait", type=click.FloatRange(0), metavar="SECONDS", help="How long to wait for a store that is in use.")
 _json = click.option("--json", "form", flag_value="json", help="Write JSON, a line for each.")
 _csv = click.option("--csv", "form", flag_value="csv", help="Write CSV, with a line of names.")
+_FILE = click.Path(exists=True, dir_okay=False, allow_dash=True)
 _verify = click.option("--verify", "verifies", is_flag=True, help="Verify signatures by the certificates in the messages, which says nothing of trust.")
 
 
+_FILTERS = (
+    click.option("--state", metavar="STATE", help="Only messages in this state, as 'does not fit', which the manual lists."),
+    click.option("--under", metavar="PATH", help="Only this file, or what is in this folder."),
+    click.option("--signer", metavar="TEXT", help="Only messages with TEXT in the name of a signer or of its issuer."),
+    click.option("--algorithm", metavar="NAME", help="Only what uses this algorithm or key, as sha1 or RSA."),
+    click.option("--since", metavar="TIME", help="Only what was signed or time-stamped from then on, in UTC: 2024, 2024-02 or 2024-02-29."),
+    click.option("--until", metavar="TIME", help="The same up to then: all of 2024, of 2024-02 or of 2024-02-29."),
+)
+_ORDER = (
+    click.option("--sort", metavar="COLUMN", help="In the order of this column, as JSON names it."),
+    click.option("--limit", type=click.IntRange(0), metavar="N", help="Only the first N."),
+)
+_NAMES_OF_FILTERS = ("state", "under", "signer", "algorithm", "since", "until", "sort", "limit")
+
+
+def _filtered(*options: Callable[..., Any]) -> Callable[[Callable[..., None]], Callable[..., None]]:
+    """Gives a command these options, which it takes together as `filters`."""
+
+    def decorated(command: Callable[..., None]) -> Callable[..., None]:
+        @wraps(command)
+        def packed(**words: Any) -> None:
+            command(filters=_filters_of({it: words.pop(it) for it in _NAMES_OF_FILTERS if it in words}), **words)
+
+        for option in reversed(options):
+            packed = option(packed)
+        return packed
+
+    return decorated
+
+
+def _filters_of(given: Dict[str, Any]) -> Filters:
+    from .filters import Filters
+    from .texts import path_text_of
+
+    if (under := given.get("under")) is not None:
+        given["under"] = path_text_of(os.path.realpath(under) if os.path.islink(under) else os.path.abspath(under))
+    filters = Filters(**given)
+    try:
+        filters.check()
+    except ValueError as why:
+        raise click.UsageError(str(why))
+    return filters
+
+
+_certificates = click.option(
+    "--certificates", "given", multiple=True, type=click.Path(exists=True), metavar="PATH", help="Verify by the certificates in this file or folder, and no others."
+)
+
+
 class _Commands(click.Group):
-    """The words of the command. Each ends with one line if the store or the cluster fails, or a package is missing."""
+    """The words of the command. Each ends with one line if the store or the cluster fails, a package is missing, or its output is not written."""
+
+    def main(self, *words: Any, **how: Any) -> Any:
+        try:
+            try:
+                return super().main(*words, **how)
+            finally:
+                sys.stdout.flush()
+        except OSError as error:
+            os.dup2(os.open(os.devnull, os.O_WRONLY), sys.stdout.fileno())  # or Python would try to write it again, and complain
+            if error.errno != errno.EPIPE:
+                click.echo(f"Error: the output is not written: {error.strerror}", err=True)
+            sys.exit(1)
 
     def invoke(self, context: click.Context) -> object:
         try:
@@ -173,10 +242,11 @@ def index_command(
 
     These are the files named, those in folders named, and what is in them: mail, PDF, JAR, ASiC, tar, zip and others, as the manual says. A
     file that is stored as it is now (size, time of change, inode) is not read again. The command may be stopped at any moment, and goes on
-    from there when it is called again. What cannot be read is stored as such.
+    from there when it is called again. What cannot be read is stored as such, and the status is 3 as long as the index has any.
     """
     from .indexing import Plan, index
     from .opening import is_sqlite, url_of
+    from .queries import totals
     from .showing import Bar
     from .store import Store
     from .walking import is_there, tops_of
@@ -194,10 +264,28 @@ def index_command(
     plan = Plan(tops, Options(together, patience), jobs, scheduler, anew, verifies)
     with Bar() as bar:
         done = index(store, plan, line_of, bar.show)
+    store = Store(url, wait=wait)
+    found = totals(store)
+    store.close()
     if form == "json":
-        write([{"read": done.files, "unchanged": done.unchanged, "gone": done.gone}], form, ())
+        write([{"read": done.files, "unchanged": done.unchanged, "gone": done.gone, **found._asdict()}], form, ())
     click.echo(f"{done.files} files read, {done.unchanged} unchanged, {done.gone} gone", err=True)
+    for line in _lines_of_totals(found):
+        click.echo(line, err=True)
     _end_if_missing(paths)
+    sys.exit(3 if found.unreadable else 0)
+
+
+def _lines_of_totals(found: Totals) -> Iterator[str]:
+    """Says what is in an index, and which command says more."""
+    yield f"the index has {found.files:,} files with {found.messages:,} messages: {found.fit:,} fit"
+    for count, said, word in (
+        (found.in_part, "fit only in part, or an earlier revision", "check"), (found.differ, "do not fit", "check"),
+        (found.wrong, "have a wrong signature", "check"), (found.wrong_times, "have a time-stamp that does not fit", "check"), (found.unjudged, "could not be judged", "check"), (found.refused, "are refused, damaged or too large", "refusals"),
+        (found.unreadable, "could not be read", "refusals"),
+    ):
+        if count:
+            yield f"  {count:,} {said}: `cms-canon-archive {word}` lists them"
 
 
 def _awaited(url: str, stays: float) -> Store:
@@ -323,17 +411,43 @@ def load_command(url: str, wait: Optional[float]) -> None:
 
 
 @main.command("check")
-@click.option("--all", "all_of_them", is_flag=True, help="List the messages that fit and break no rule too.")
+@click.argument("file", required=False, type=_FILE)
+@click.argument("document", required=False, type=_FILE)
+@click.option("--all", "all_of_them", is_flag=True, help="List the messages that fit and break no rule too, and those that nobody signed.")
 @click.option("--noted", is_flag=True, help="List only the messages that fit with a note.")
+@_filtered(*_FILTERS, *_ORDER)
+@_verify
+@_certificates
 @_store
 @_wait
 @_json
 @_csv
-def check_command(all_of_them: bool, noted: bool, url: str, wait: Optional[float], form: Optional[str]) -> None:
-    """List what is wrong with the messages, by file.
+def check_command(
+    file: Optional[str],
+    document: Optional[str],
+    all_of_them: bool,
+    noted: bool,
+    filters: Filters,
+    verifies: bool,
+    given: Tuple[str, ...],
+    url: str,
+    wait: Optional[float],
+    form: Optional[str],
+) -> None:
+    """Say whether the messages in FILE fit what they sign; without FILE, list what is wrong with those of the index.
 
-    The status is 1 if the digests of any message or of a token in it do not fit, or a signature is wrong.
+    DOCUMENT is what the message in FILE signs or time-stamps, of any size. Without it that is looked for in FILE and beside it. Either may be -,
+    the standard input. The status is 0 only if each digest of each message and of each time-stamp in it was compared, and fits, and with --verify or
+    --certificates if the signature of each signer is right. It is 1 if a digest does not fit, or a signature is wrong, and 3 if anything is not known.
+
+    Without FILE, the status is 1 if the digests of any message or of a token in it do not fit, or a signature is wrong.
     """
+    if file is not None:
+        if all_of_them or noted or any(it is not None for it in filters):
+            raise click.UsageError("--all, --noted and what chooses among rows are for the messages of the index, and not for FILE")
+        sys.exit(_check_file(file, document, _verification(verifies, given), form))
+    if verifies or given:
+        raise click.UsageError("--verify and --certificates are for FILE; those of the index are verified by `index --verify`")
     from . import queries
     from .containers.found import State
     from .store import Store
@@ -344,7 +458,8 @@ def check_command(all_of_them: bool, noted: bool, url: str, wait: Optional[float
     def rows() -> Iterator[Dict[str, Any]]:
         nonlocal differs
         store = Store(url, wait=wait)
-        for row in _with_name(queries.noted(store) if noted else queries.checked(store, all_of_them)):
+        is_any = all_of_them or filters.state is not None
+        for row in _with_name(queries.noted(store, filters) if noted else queries.checked(store, is_any, filters)):
             differs = differs or row["state"] == State.DIFFERS.value or row["verdict"] == "wrong" or row["wrong_times"] > 0
             yield row
 
@@ -352,12 +467,109 @@ def check_command(all_of_them: bool, noted: bool, url: str, wait: Optional[float
     sys.exit(1 if differs else 0)
 
 
+def _verification(verifies: bool, given: Sequence[str]) -> Verification:
+    from .one_file import verification
+
+    try:
+        return verification(verifies, given)
+    except (Complaint, OSError) as why:
+        raise click.UsageError(str(why))
+
+
+def _check_file(file: str, document: Optional[str], how: Verification, form: Optional[str]) -> int:
+    """Says whether the messages in a file fit what they sign, and returns the status."""
+    from .one_file import judged_in, lines_of, worst
+    from .reading import read_of, row_in_file
+    from .texts import shown
+    from .walking import entry_of
+    from .writing import write
+
+    outcomes = []
+    with _given(file, document) as (path, other, progress):
+        messages = _each(judged_in(path, other, how, progress), lambda it: outcomes.append(it.outcome))
+        if form is not None:
+            rows = ({"path": file, **row_in_file(read_of(entry_of(path), it.found, it.facts, how.verifies))} for it in messages)
+            write(_with_name(rows), form, ("state", "findings", "verdict", "note", "file"))
+        for it in messages:
+            first, *others = lines_of(it, how)
+            click.echo(f"{shown(_name_in(file, it.found.where))}: {shown(first)}")
+            for line in others:
+                click.echo(f"  {shown(line)}")
+    if not outcomes:
+        click.echo(f"{shown(file)}: there is no message", err=True)
+    return int(worst(outcomes))
+
+
+def _each(items: Iterable[_Item], note: Callable[[_Item], None]) -> Iterator[_Item]:
+    """Gives items, each once it is noted."""
+    for it in items:
+        note(it)
+        yield it
+
+
+def _name_in(file: str, place: str) -> str:
+    return f"{file}!{place}" if place else file
+
+
+@contextmanager
+def _given(file: str, document: Optional[str]) -> Iterator[Tuple[str, Optional[str], Callable[[int], object]]]:
+    """Lends the paths of a file and of the document that it signs, and what shows how much of that was read."""
+    from tqdm import tqdm
+
+    from .one_file import STANDARD_INPUT, on_disk
+
+    if file == document == STANDARD_INPUT:
+        raise click.UsageError("FILE and DOCUMENT cannot both be the standard input")
+    bar = tqdm(unit="B", unit_scale=True, disable=None, leave=False)
+    try:
+        with on_disk(file) as path, on_disk(document) if document else nullcontext() as other, bar:
+            yield path, other, bar.update
+    except Complaint as why:  # or the status would say that a digest does not fit
+        raise click.UsageError(str(why))
+
+
+@main.command("inspect")
+@click.argument("file", type=_FILE)
+@click.argument("document", required=False, type=_FILE)
+@_verify
+@_certificates
+@_json
+def inspect_command(file: str, document: Optional[str], verifies: bool, given: Tuple[str, ...], form: Optional[str]) -> None:
+    """Say what the messages in FILE are: who signed them, when and how, their time-stamps, and what is found in them.
+
+    DOCUMENT is what the message in FILE signs or time-stamps. Either may be -, the standard input. The status is 1 if there is no message.
+    """
+    from .inspecting import lines_of
+    from .one_file import judged_in, messages_in
+    from .reading import read_of, row_in_file
+    from .texts import shown
+    from .walking import entry_of
+    from .writing import write
+
+    count, how = 0, _verification(verifies, given)
+    with _given(file, document) as (path, other, progress):
+        if form == "json":
+            for it in judged_in(path, other, how, progress):
+                write([{"path": file, **row_in_file(read_of(entry_of(path), it.found, it.facts, how.verifies))}], form, ())
+                count += it.facts.digest is not None
+        else:
+            for found in messages_in(path, other, progress):
+                click.echo(shown(_name_in(file, found.where)))
+                for line in lines_of(found, how):
+                    click.echo(line)
+                count += found.octets is not None
+    if not count:
+        click.echo(f"{shown(file)}: there is no message", err=True)
+    sys.exit(0 if count else 1)
+
+
 @main.command("signers")
+@_filtered(*_FILTERS, *_ORDER)
 @_store
 @_wait
 @_json
 @_csv
-def signers_command(url: str, wait: Optional[float], form: Optional[str]) -> None:
+def signers_command(filters: Filters, url: str, wait: Optional[float], form: Optional[str]) -> None:
     """List who signed, as their certificates in the messages say.
 
     Anybody can make a certificate with any name, and the signing time is what the signer claims.
@@ -366,16 +578,17 @@ def signers_command(url: str, wait: Optional[float], form: Optional[str]) -> Non
     from .store import Store
 
     columns = ("subject", "issuer", "serial", "key_identifier", "signing_time", "not_before", "not_after", "digest", "signature", "key", "bits")
-    _write_named(signers(Store(url, wait=wait)), form, (*columns, "number", "file"))
+    _write_named(signers(Store(url, wait=wait), filters), form, (*columns, "number", "file"))
 
 
 @main.command("algorithms")
 @click.option("--weak", is_flag=True, help="List what uses MD5, SHA-1, or keys of RSA or DSA below 2,048 bits.")
+@_filtered(*_FILTERS, _ORDER[1])
 @_store
 @_wait
 @_json
 @_csv
-def algorithms_command(weak: bool, url: str, wait: Optional[float], form: Optional[str]) -> None:
+def algorithms_command(weak: bool, filters: Filters, url: str, wait: Optional[float], form: Optional[str]) -> None:
     """List which algorithms and keys signers, certificates, time-stamps and manifests use, and how many there are of each.
 
     Of certificates these are the algorithms by which they are signed, and of manifests only what they compare by MD5 or SHA-1 alone.
@@ -387,35 +600,52 @@ def algorithms_command(weak: bool, url: str, wait: Optional[float], form: Option
     store = Store(url, wait=wait)
     columns = ("digest", "signature", "key", "bits")
     if weak:
-        _write_named(queries.weak(store), form, ("of", *columns, "number", "file"))
+        _write_named(islice(queries.weak(store, filters), filters.limit), form, ("of", *columns, "number", "file"))
     else:
-        write(queries.algorithms(store), form, ("signers", "of", *columns, "is_weak"))
+        write(islice(queries.algorithms(store, filters._replace(limit=None)), filters.limit), form, ("signers", "of", *columns, "is_weak"))
 
 
 @main.command("others")
+@_filtered(*_FILTERS, *_ORDER)
 @_store
 @_wait
 @_json
 @_csv
-def others_command(url: str, wait: Optional[float], form: Optional[str]) -> None:
+def others_command(filters: Filters, url: str, wait: Optional[float], form: Optional[str]) -> None:
     """List what is signed by another format, as XAdES or OpenPGP, and what is not looked into, as 7z."""
     from .queries import others
     from .store import Store
 
-    _write_named(others(Store(url, wait=wait)), form, ("what", "form", "note", "file"))
+    _write_named(others(Store(url, wait=wait), filters), form, ("what", "form", "note", "file"))
 
 
-@main.command("times")
+@main.command("files")
+@click.option("--all", "all_of_them", is_flag=True, help="List all files, and what is in them.")
+@_filtered(*_FILTERS, *_ORDER)
 @_store
 @_wait
 @_json
 @_csv
-def times_command(url: str, wait: Optional[float], form: Optional[str]) -> None:
+def files_command(all_of_them: bool, filters: Filters, url: str, wait: Optional[float], form: Optional[str]) -> None:
+    """List the files in which there is no message, what they are, and why they were not looked into."""
+    from .queries import files
+    from .store import Store
+
+    _write_named(files(Store(url, wait=wait), all_of_them, filters), form, ("what", "form", "note", "length", "file"))
+
+
+@main.command("times")
+@_filtered(*_FILTERS, *_ORDER)
+@_store
+@_wait
+@_json
+@_csv
+def times_command(filters: Filters, url: str, wait: Optional[float], form: Optional[str]) -> None:
     """List the times that tokens vouch for, and whether each fits what it covers."""
     from .queries import times
     from .store import Store
 
-    _write_named(times(Store(url, wait=wait)), form, ("time", "state", "policy", "serial", "digest", "number", "file"))
+    _write_named(times(Store(url, wait=wait), filters), form, ("time", "state", "policy", "serial", "digest", "number", "file"))
 
 
 @main.command("same")
@@ -435,11 +665,9 @@ def same_command(file: str, url: str, wait: Optional[float], form: Optional[str]
     for message in messages:
         if message.why_not is not None:
             click.echo(f"{shown(message.name)}: {message.why_not}", err=True)
-    if not messages:
-        click.echo(f"{shown(file)}: there is no message", err=True)
     digests_found = dict.fromkeys(it.text for it in messages if it.why_not is None)
     _write_named((row for digest in digests_found for row in queries.same(store, digest)), form, ("file", "length"))
-    sys.exit(0 if messages and all(it.why_not is None for it in messages) else 1)
+    sys.exit(0 if all(it.why_not is None for it in messages) else 1)
 
 
 @main.command("digests")
@@ -495,11 +723,12 @@ def _write_shared(groups: Iterable[Group], form: Optional[str]) -> None:
 
 
 @main.command("refusals")
+@_filtered(*_FILTERS, *_ORDER)
 @_store
 @_wait
 @_json
 @_csv
-def refusals_command(url: str, wait: Optional[float], form: Optional[str]) -> None:
+def refusals_command(filters: Filters, url: str, wait: Optional[float], form: Optional[str]) -> None:
     """List what is refused, damaged, too large, or cannot be read.
 
     `cms-canon help convert` says what the reasons mean, and what to do.
@@ -508,15 +737,16 @@ def refusals_command(url: str, wait: Optional[float], form: Optional[str]) -> No
     from .store import Store
     from .writing import write
 
-    write(map(_with_why, _with_name(refusals(Store(url, wait=wait)))), form, ("why", "file"))
+    write(map(_with_why, _with_name(refusals(Store(url, wait=wait), filters))), form, ("why", "file"))
 
 
 @main.command("changed")
+@_filtered(*_FILTERS, *_ORDER)
 @_store
 @_wait
 @_json
 @_csv
-def changed_command(url: str, wait: Optional[float], form: Optional[str]) -> None:
+def changed_command(filters: Filters, url: str, wait: Optional[float], form: Optional[str]) -> None:
     """List the messages that are not DER.
 
     A copy of them in DER would have other octets.
@@ -524,7 +754,7 @@ def changed_command(url: str, wait: Optional[float], form: Optional[str]) -> Non
     from .queries import changed
     from .store import Store
 
-    _write_named(changed(Store(url, wait=wait)), form, ("file", "kind", "length"))
+    _write_named(changed(Store(url, wait=wait), filters), form, ("file", "kind", "length"))
 
 
 # ---- files
@@ -537,7 +767,7 @@ def show_command(file: str, form: Optional[str]) -> None:
     """List what is in the messages of FILE, whatever it keeps them in."""
     from .exporting import shown_in
 
-    _report_each(shown_in(file, _fields_in_json if form == "json" else _listing), form)
+    sys.exit(0 if _report_each(shown_in(file, _fields_in_json if form == "json" else _listing), form) else 1)
 
 
 def _fields_in_json(der: bytes) -> str:
@@ -553,17 +783,22 @@ def _listing(der: bytes) -> str:
 
 
 @main.command("convert")
-@click.argument("files", nargs=-1, required=True, type=click.Path(exists=True, dir_okay=False))
+@click.argument("paths", nargs=-1, required=True, type=click.Path(exists=True))
 @click.option("--to", "folder", type=click.Path(path_type=Path, file_okay=False), required=True, help="The folder for the copies.")
+@click.option("--limit", type=click.IntRange(0, _LARGEST_LIMIT), metavar="OCTETS", help="How many octets a message and its DER may have.  [default: 268435456]")
 @_json
-def convert_command(files: Tuple[str, ...], folder: Path, form: Optional[str]) -> None:
-    """Write the DER of the messages of FILES to FOLDER, by their names.
+def convert_command(paths: Tuple[str, ...], folder: Path, limit: Optional[int], form: Optional[str]) -> None:
+    """Write the DER of the messages in files and folders to FOLDER, by their names.
 
-    A message in a container is named by the file, an exclamation mark, and its place. No file is written over.
+    The copies of what is in a folder are in folders of the same names. A message in a container is named by the file, an exclamation mark, and its
+    place. No file is written over. The status is 3 if anything is not converted, for which there is a line.
     """
+    import cms_canon
+
     from .exporting import convert
 
-    _report_each((copied for file in files for copied in convert(file, folder)), form)
+    most = cms_canon.LIMIT if limit is None else limit
+    sys.exit(0 if _report_each((copied for path in paths for copied in convert(path, folder, most)), form) else 3)
 
 
 def _json_of(copied: Copied) -> Dict[str, Any]:
@@ -573,14 +808,13 @@ def _json_of(copied: Copied) -> Dict[str, Any]:
     return {**row, "message": json.loads(copied.text)} if copied.text else row
 
 
-def _report_each(copies: Iterable[Copied], form: Optional[str]) -> None:
-    """Writes what came of each message, and ends with status 1 if it failed for any, or if there was none."""
+def _report_each(copies: Iterable[Copied], form: Optional[str]) -> bool:
+    """Writes what came of each message, and returns whether all went well."""
     from .texts import shown
     from .writing import write
 
-    failed = any_at_all = False
+    failed = False
     for copied in copies:
-        any_at_all = True
         failed = failed or copied.why_not is not None
         if form == "json":
             write([_json_of(copied)], form, ())
@@ -588,9 +822,7 @@ def _report_each(copies: Iterable[Copied], form: Optional[str]) -> None:
             click.echo(f"{shown(copied.name)}: {copied.why_not}", err=True)
         elif copied.text:
             click.echo(f"{shown(copied.name)}\n{copied.text}", nl=False)
-    if not any_at_all:
-        click.echo("there is no message", err=True)
-    sys.exit(0 if any_at_all and not failed else 1)
+    return not failed
 
 
 @main.command("export")

@@ -7,12 +7,13 @@ import os
 from itertools import groupby
 from pathlib import Path
 from secrets import token_hex
-from typing import Callable, Dict, Iterable, Iterator, NamedTuple, Optional
+from typing import Callable, Dict, Iterable, Iterator, List, NamedTuple, Optional, Tuple
 
 import sqlalchemy as sa
 
 import cms_canon
 
+from .containers.files import opened
 from .containers.finder import found_in
 from .containers.found import Class, Found
 from .containers.sources import Budget, in_memory
@@ -21,9 +22,10 @@ from .queries import name_of
 from .reading import NO_PATH, TOO_LONG, Entry, found_in_entry
 from .store import FILES, Store
 from .texts import is_cut, text_of
-from .walking import entry_of
+from .walking import entries_of, entry_of
 
 _MAY_BE = (Class.MESSAGE, Class.DAMAGED, Class.TOO_LARGE, Class.UNREADABLE)
+NO_MESSAGE = "there is no message"
 MOST_OF_A_NAME = 255  # octets of the name of a file, as file systems take them
 
 
@@ -58,17 +60,17 @@ def _put(file: Path, der: bytes) -> None:
         raise OSError("there is a file of other octets")
 
 
-def _der_of(found: Found) -> bytes:
+def der_of(found: Found, limit: int = cms_canon.LIMIT) -> bytes:
     """Returns the DER of a message that was found. Raises `OSError` if none was."""
     if found.what is not Class.MESSAGE or found.octets is None:
         raise OSError(found.note or "there is no message any more")
-    return cms_canon.convert(found.octets)
+    return cms_canon.convert(found.octets, limit)
 
 
 def _copy(found: Found, digest: str, file: Path) -> Optional[str]:
     """Writes the DER of a message, and returns why not if that fails."""
     try:
-        der = _der_of(found)
+        der = der_of(found)
         if hashlib.sha256(der).hexdigest() != digest:
             return "it has changed since it was indexed"
         _put(file, der)
@@ -109,7 +111,7 @@ def _messages_in(path: str) -> Iterator[Found]:
     return (it for it in found_in_entry(Entry(os.path.realpath(path), 0, 0, 0)) if it.what in _MAY_BE)
 
 
-def _name_of_found(path: str, found: Found) -> str:
+def name_of_found(path: str, found: Found) -> str:
     return f"{path}!{found.where}" if found.where else path
 
 
@@ -118,16 +120,54 @@ def _name_of_copy(name: str) -> str:
     return text_of(name).replace("/", "_").encode()[-MOST_OF_A_NAME:].decode(errors="ignore")
 
 
-def convert(path: str, folder: Path) -> Iterator[Copied]:
-    """Writes the DER of each message in a file to a folder, under its name."""
-    for found in _messages_in(path):
-        name = _name_of_found(os.path.basename(path), found)
+def _copies_of(path: str, to: str, folder: Path, limit: int) -> Iterator[Copied]:
+    """Writes the DER of each message in a file to a folder, under the name that its copy is to have."""
+    below, name = os.path.split(to)
+    for found in _large_message_in(path, limit) or _messages_in(path):
         try:
-            _put(folder / _name_of_copy(name), _der_of(found))
+            _put(folder / below / _name_of_copy(name_of_found(name, found)), der_of(found, limit))
         except (OSError, MemoryError, cms_canon.Refused) as why:
-            yield Copied(_name_of_found(path, found), str(why) or "out of memory")
+            yield Copied(name_of_found(path, found), str(why) or "out of memory")
         else:
-            yield Copied(_name_of_found(path, found), None)
+            yield Copied(name_of_found(path, found), None)
+
+
+def _large_message_in(path: str, limit: int) -> List[Found]:
+    """Returns a file as one message if it is longer than the messages that are looked for, and no longer than the limit. Else there is none."""
+    real = os.path.realpath(path)
+    if not cms_canon.LIMIT < entry_of(real).size <= limit:
+        return []
+    with opened(real) as file:
+        octets = file.read(limit + 1)
+    return [Found("", "file", Class.MESSAGE, len(octets), octets)]
+
+
+def _below(top: str, path: str) -> str:
+    """Returns the name of the copy of a file in a folder that was named: that of the folder with it, as `cp -r` has it."""
+    name = os.path.basename(os.path.normpath(top))
+    return os.path.normpath(os.path.join("" if name == ".." else name, os.path.relpath(path, top)))
+
+
+def _named_by(top: str, folder: Path) -> Iterator[Tuple[str, str]]:
+    """Gives the files that a path names, and the names that their copies are to have. What is in the folder of the copies is left out."""
+    if not os.path.isdir(top):
+        yield top, os.path.basename(top)
+        return
+    copies = os.path.realpath(folder)
+    for it in entries_of([top]):
+        if os.path.commonpath([copies, os.path.realpath(it.path)]) != copies:
+            yield it.path, _below(top, it.path)
+
+
+def convert(top: str, folder: Path, limit: int = cms_canon.LIMIT) -> Iterator[Copied]:
+    """Writes the DER of each message in a file, or in the files of a folder and of those inside it, to another folder."""
+    count = 0
+    for path, name in _named_by(top, folder):
+        for it in _copies_of(path, name, folder, limit):
+            yield it
+            count += 1
+    if not count:
+        yield Copied(top, NO_MESSAGE)
 
 
 def digests_in(path: str, octets: Optional[bytes]) -> Iterator[Copied]:
@@ -143,9 +183,13 @@ def shown_in(path: str, show: Callable[[bytes], str]) -> Iterator[Copied]:
 
 
 def _of_each(path: str, messages: Iterable[Found], show: Callable[[bytes], str]) -> Iterator[Copied]:
-    for found in messages:
-        name = _name_of_found(path, found)
+    """Gives what `show` returns of the DER of each message of a file, or that there is none."""
+    count = 0
+    for count, found in enumerate(messages, 1):
+        name = name_of_found(path, found)
         try:
-            yield Copied(name, None, show(_der_of(found)))
+            yield Copied(name, None, show(der_of(found)))
         except (OSError, MemoryError, cms_canon.Refused) as why:
             yield Copied(name, str(why) or "out of memory")
+    if not count:
+        yield Copied(path, NO_MESSAGE)

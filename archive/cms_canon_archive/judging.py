@@ -39,7 +39,7 @@ _F6, _F7, _F8, _F9, _F11, _F13, _F14, _F17, _F18 = 6, 7, 8, 9, 11, 13, 14, 17, 1
 _MESSAGE_DIGEST, _SIGNING_TIME = "1.2.840.113549.1.9.4", "1.2.840.113549.1.9.5"
 _OVER_SIGNATURE = {"1.2.840.113549.1.9.16.2.14", "1.3.6.1.4.1.311.3.3.1"}  # tokens for the signature
 _OVER_MORE = {*(f"1.2.840.113549.1.9.16.2.{it}" for it in (25, 26, 27, 48)), "0.4.0.1733.2.4"}  # for the signature and more
-_OF_TIMES = _OVER_SIGNATURE | _OVER_MORE
+OF_TIMES = _OVER_SIGNATURE | _OVER_MORE
 _TOKEN = "tSTInfo"
 _UTC_TIME, _GENERALIZED_TIME = 0x17, 0x18
 _PKCS1, _ECDSA, _NIST = "1.2.840.113549.1.1", "1.2.840.10045.4", "2.16.840.1.101.3.4"
@@ -153,7 +153,7 @@ def _key_of(certificate: x509.Certificate) -> Tuple[Optional[str], Optional[int]
 
 def _signature_of(certificate: x509.Certificate) -> str:
     """Returns the algorithm by which a certificate is signed, as `rsa-sha1`, also if the digest is in its parameters."""
-    name = _oid_name(certificate.signature_algorithm_oid.dotted_string)
+    name = name_of_oid(certificate.signature_algorithm_oid.dotted_string)
     hashed = certificate.signature_hash_algorithm
     return f"{name}-{hashed.name}" if name == "rsa-pss" and hashed is not None else name
 
@@ -208,18 +208,18 @@ def _certificates_of(facts: _facts.Facts) -> List[_Certificate]:
 _NAMES_OF_OIDS = {**_SIGNATURES, **_DIGESTS, **NAMES}
 
 
-def _oid_name(oid: str) -> str:
+def name_of_oid(oid: str) -> str:
     return _NAMES_OF_OIDS.get(oid, oid)
 
 
 @lru_cache(maxsize=256)
 def _short_name(contents: bytes) -> str:
-    return _oid_name(dotted(contents))
+    return name_of_oid(dotted(contents))
 
 
 def _name_of(contents: bytes) -> str:
     """Returns the name of an OBJECT IDENTIFIER with these contents octets. Those of short ones are kept."""
-    return _short_name(contents) if len(contents) <= _SHORT_OID else _oid_name(dotted(contents))
+    return _short_name(contents) if len(contents) <= _SHORT_OID else name_of_oid(dotted(contents))
 
 
 def _one(octets: bytes) -> Optional[Tuple[int, bytes]]:
@@ -325,7 +325,7 @@ def _attribute_times(signer: _facts.Signer) -> Iterator[Time]:
     """Gives the times of the tokens in the unsigned attributes of a signer. The imprint of one for its signature is compared."""
     count = 0
     for oid, values in signer.unsigned:
-        if oid not in _OF_TIMES:
+        if oid not in OF_TIMES:
             continue
         for value in values:
             yield _attribute_time(f"{signer.number}/{count}", value, signer.signature if oid in _OVER_SIGNATURE else None)
@@ -413,8 +413,11 @@ class _Verified(NamedTuple):
 _NOT_VERIFIED = _Verified()
 
 
-def _verified(octets: bytes, facts: _facts.Facts, content: Optional[Content]) -> _Verified:
-    """Verifies the signatures. If the content itself is signed and is not there, or too long to be handed over, nothing is known."""
+def _verified(octets: bytes, facts: _facts.Facts, content: Optional[Content], certificates: Sequence[bytes]) -> _Verified:
+    """Verifies the signatures, by these certificates and no others if there are any.
+
+    If the content itself is signed and is not there, or too long to be handed over, nothing is known.
+    """
     from cms_canon import verifier
 
     own = _signers_of_content(facts)
@@ -423,7 +426,7 @@ def _verified(octets: bytes, facts: _facts.Facts, content: Optional[Content]) ->
         if content is None or content.bound is State.UNREADABLE or content.length > cms_canon.LIMIT:
             return _Verified(_VERDICTS[_F18])
         given = b"".join(content.pieces)
-    found = [it for it in cms_canon.check(octets, content=given, verifier=verifier.by_certificates()) if it.code in _VERDICTS]
+    found = [it for it in cms_canon.check(octets, content=given, verifier=verifier.by_certificates(certificates or None)) if it.code in _VERDICTS]
     not_right = {it.signer for it in found}
     wrong = frozenset(it.signer for it in found if it.code == _F17 and it.signer in own)
     return _Verified(_VERDICTS[min(it.code for it in found)] if found else "right", frozenset(it for it in own if it not in not_right), wrong)
@@ -536,14 +539,14 @@ def _times_of(facts: _facts.Facts, is_token: bool, state: State) -> List[Time]:
     return own + list(islice((time for it in stamped for time in _attribute_times(it)), MOST_LISTED)) if stamped else own
 
 
-def _judged_message(found: Found, octets: bytes, verifies: bool) -> Facts:
+def _judged_message(found: Found, octets: bytes, verifies: bool, given: Sequence[bytes]) -> Facts:
     facts = found.facts or facts_of(octets, checks=found.content is None)
     is_token = _is_token(facts)
     kind = _kind_of(facts, is_token)
     findings = _findings(octets, facts, found.content, is_token)
-    verified = _verified(octets, facts, found.content) if verifies and facts.signers else _NOT_VERIFIED
+    verified = _verified(octets, facts, found.content, given) if verifies and facts.signers else _NOT_VERIFIED
     state, of_countersigners = _with_countersigned(_state_of(found, facts, kind, findings.codes, verified), facts)
-    certificates = _certificates_of(facts) if facts.signers else []
+    certificates = [*filter(None, map(_certificate, given)), *_certificates_of(facts)] if facts.signers else []
     signers = [_signer(it, certificates) for it in facts.signers[:MOST_LISTED]]
     times = _times_of(facts, is_token, state)
     of_times = next((f"token {it.number}: {it.state.value}" for it in times if it.number and it.state is State.DIFFERS), "")
@@ -554,7 +557,7 @@ def _judged_message(found: Found, octets: bytes, verifies: bool) -> Facts:
         signers=None if facts.content_type is None else facts.signer_count,
         is_der=facts.der == octets,
         time=times[0].time if times and times[0].number == "" else None,
-        content_type=None if facts.content_type is None else _oid_name(facts.content_type),
+        content_type=None if facts.content_type is None else name_of_oid(facts.content_type),
         content=_where(found, facts, is_token),
         state=state,
         note=_joined(_note_of(found), of_countersigners, of_times),
@@ -567,15 +570,18 @@ def _judged_message(found: Found, octets: bytes, verifies: bool) -> Facts:
     )
 
 
-def judged(found: Found, verifies: bool = False) -> Facts:
-    """Returns what is known of what was found: of what may be a message, whether it is one, or why it is refused."""
+def judged(found: Found, verifies: bool = False, certificates: Sequence[bytes] = ()) -> Facts:
+    """Returns what is known of what was found: of what may be a message, whether it is one, or why it is refused.
+
+    Signatures are verified by the certificates in the message, or by these, in DER, and no others if there are any.
+    """
     if found.what is not Class.MESSAGE or found.octets is None:
         return Facts(found.what, note=found.note)
     try:
-        return _judged_message(found, found.octets, verifies)
+        return _judged_message(found, found.octets, verifies, certificates)
     except (OSError, Ended) as why:  # of a content that is read now
         where = found.content.where if found.content else ""
         unread = Content(where, 0, (), State.UNREADABLE, f"{where}: {why_of(why)}")
-        return judged(found.with_content(unread), verifies)
+        return judged(found.with_content(unread), verifies, certificates)
     except cms_canon.Refused as refused:
         return Facts(Class.REFUSED, note=_note_of(found), reason=refused.reason, name=refused.name, at=refused.at)

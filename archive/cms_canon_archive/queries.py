@@ -6,18 +6,23 @@ from collections import Counter
 from enum import Enum
 from itertools import groupby
 from operator import itemgetter
-from typing import Any, Iterator, List, NamedTuple
+from typing import Any, Dict, Iterator, List, NamedTuple, Optional, Sequence
 
 import sqlalchemy as sa
 
-from .containers.found import Class, State
+from .containers.found import GOOD, Class, State
 from .containers.manifests import WEAK_ALONE
 from .containers.names import READERS_DIFFER
+from .filters import ALL, Filters
 from .reading import Row
 from .store import FILES, SIGNERS, TIMES, Store
+from .tables import PLACE_TIMES, PLACES, of_same_place, shown
 
 WEAK_DIGESTS = ("md5", "sha1")
 FEWEST_BITS = 2048  # of a key of RSA or DSA that is not weak
+
+
+_REFUSED = (Class.REFUSED.value, Class.DAMAGED.value, Class.TOO_LARGE.value)
 
 
 class Group(NamedTuple):
@@ -25,6 +30,62 @@ class Group(NamedTuple):
 
     digest: str
     names: List[str]
+
+
+class Totals(NamedTuple):
+    """How many files an index has, and what came of the messages in them."""
+
+    files: int
+    messages: int
+    fit: int
+    """Without those whose signature was verified, and is wrong."""
+    in_part: int
+    """Those that fit only in part, or fit an earlier revision."""
+    differ: int
+    wrong: int
+    """Those whose signature was verified, and is wrong, whatever their state."""
+    wrong_times: int
+    """Those with a time-stamp in an unsigned attribute that does not fit, whatever their state."""
+    unjudged: int
+    """Those that are signed, and of which it is not known whether they fit."""
+    refused: int
+    """What looks like a message and is none, with what is damaged or too large."""
+    unreadable: int
+
+
+def totals(store: Store) -> Totals:
+    """Counts what is in an index."""
+    is_file = (PLACES.c.member == "").label("is_file")
+    is_wrong = (sa.func.coalesce(PLACES.c.verdict, "") == "wrong").label("is_wrong")
+    groups = (PLACES.c.what, PLACES.c.state, is_file, is_wrong)
+    rows = [
+        (row["what"], row["state"], bool(row["is_file"]), bool(row["is_wrong"]), int(row["count"]))
+        for row in store.asked(sa.select(*groups, sa.func.count().label("count")).group_by(*groups))
+    ]
+    states: Dict[Optional[str], int] = {}
+    wrong: Dict[Optional[str], int] = {}
+    for what, state, _, has_wrong, count in rows:
+        if what == Class.MESSAGE.value:
+            states[state] = states.get(state, 0) + count
+            wrong[state] = wrong.get(state, 0) + count * has_wrong
+    fits, differ = states.get(State.FITS.value, 0), states.get(State.DIFFERS.value, 0)
+    in_part = sum(states.get(it.value, 0) for it in GOOD) - fits
+    unsigned = states.get(None, 0) + states.get(State.NO_SIGNATURE.value, 0)
+    of_attributes = (PLACE_TIMES.c.number != "") & (PLACE_TIMES.c.state == State.DIFFERS.value)
+    stamped = sa.select(PLACE_TIMES.c.part, PLACE_TIMES.c.file, PLACE_TIMES.c.member).where(of_attributes).distinct().subquery()
+    (wrong_times,) = store.asked(sa.select(sa.func.count().label("count")).select_from(stamped))
+    return Totals(
+        files=sum(count for *_, of_file, _, count in rows if of_file),
+        messages=sum(states.values()),
+        fit=fits - wrong.get(State.FITS.value, 0),
+        in_part=in_part,
+        differ=differ,
+        wrong=sum(wrong.values()),
+        wrong_times=int(wrong_times["count"]),
+        unjudged=sum(states.values()) - fits - in_part - differ - unsigned,
+        refused=sum(count for what, *_, count in rows if what in _REFUSED),
+        unreadable=sum(count for what, *_, count in rows if what == Class.UNREADABLE.value),
+    )
 
 
 def name_of(row: Row) -> str:
@@ -45,42 +106,55 @@ def duplicates(store: Store) -> Iterator[Group]:
         yield Group(str(digest), [name_of(row) for row in some])
 
 
-def refusals(store: Store) -> Iterator[Row]:
+def _files(store: Store, filters: Filters, *conditions: Any, order: Sequence[Any] = ()) -> Iterator[Row]:
+    """Gives the files and what is in them that meet the conditions, in the order of these columns and of their names."""
+    asked = sa.select(*shown(FILES)).where(*conditions).order_by(*order, FILES.c.path, FILES.c.member)
+    return store.asked(filters.of(asked, FILES))
+
+
+def refusals(store: Store, filters: Filters = ALL) -> Iterator[Row]:
     """Gives what is refused, damaged, too large or cannot be read, in the order of the reasons."""
     refused = FILES.c.reason.is_not(None) | FILES.c.error.is_not(None)
-    return store.rows(refused, order=(FILES.c.reason.nulls_last(), FILES.c.path, FILES.c.member))
+    return _files(store, filters, refused, order=(FILES.c.reason.nulls_last(),))
 
 
-def changed(store: Store) -> Iterator[Row]:
+def changed(store: Store, filters: Filters = ALL) -> Iterator[Row]:
     """Gives the messages whose DER differs from what the file holds, so that a copy in DER would change octets."""
-    return store.rows(FILES.c.is_der.is_(False))
+    return _files(store, filters, FILES.c.is_der.is_(False))
 
 
-def checked(store: Store, all_of_them: bool) -> Iterator[Row]:
-    """Gives the messages, or only those that are not said to fit, on which readers differ, that break a rule, or with a token that does not fit.
+_UNSIGNED = ("request", "certificates")  # the kinds of messages that nobody is to sign
+
+
+def checked(store: Store, all_of_them: bool, filters: Filters = ALL) -> Iterator[Row]:
+    """Gives the messages, or only those that somebody signed and that are not said to fit, on which readers differ, that break a rule, or with a
+    token that does not fit.
 
     `wrong_times` is how many tokens do not fit, of the message itself and of those in unsigned attributes.
     """
     is_message = FILES.c.what == Class.MESSAGE.value
-    of_message = (TIMES.c.path == FILES.c.path) & (TIMES.c.member == FILES.c.member) & (TIMES.c.state == State.DIFFERS.value)
-    wrong = sa.select(sa.func.count()).select_from(TIMES).where(of_message).correlate(FILES).scalar_subquery()
+    of_message = of_same_place(PLACE_TIMES, FILES) & (PLACE_TIMES.c.state == State.DIFFERS.value)
+    wrong = sa.select(sa.func.count()).select_from(PLACE_TIMES).where(of_message).correlate(FILES).scalar_subquery()
     is_right = (sa.func.coalesce(FILES.c.verdict, "") != "wrong") & (wrong == 0)
     is_one = sa.not_(sa.func.coalesce(FILES.c.note, "").contains(READERS_DIFFER))
     is_well = (FILES.c.state == State.FITS.value) & (FILES.c.findings == "") & is_right & is_one
-    asked = is_message if all_of_them else is_message & sa.not_(sa.func.coalesce(is_well, False))
-    return store.asked(sa.select(FILES, wrong.label("wrong_times")).where(asked).order_by(FILES.c.path, FILES.c.member))
+    is_signed = sa.func.coalesce(FILES.c.kind, "").not_in(_UNSIGNED)
+    asked = is_message if all_of_them else is_message & is_signed & sa.not_(sa.func.coalesce(is_well, False))
+    rows = sa.select(*shown(FILES), wrong.label("wrong_times")).where(asked).order_by(FILES.c.path, FILES.c.member)
+    return store.asked(filters.of(rows, FILES))
 
 
 IS_NOTED = (FILES.c.what == Class.MESSAGE.value) & (FILES.c.state == State.FITS.value) & (sa.func.coalesce(FILES.c.note, "") != "")
 
 
-def noted(store: Store) -> Iterator[Row]:
+def noted(store: Store, filters: Filters = ALL) -> Iterator[Row]:
     """Gives the messages that fit, and of which something else is to be said; `wrong_times` is 0, since none of them is asked for its tokens."""
-    return store.asked(sa.select(FILES, sa.literal(0).label("wrong_times")).where(IS_NOTED).order_by(FILES.c.path, FILES.c.member))
+    rows = sa.select(*shown(FILES), sa.literal(0).label("wrong_times")).where(IS_NOTED).order_by(FILES.c.path, FILES.c.member)
+    return store.asked(filters.of(rows, FILES))
 
 
 def _joined(table: sa.Table, *conditions: Any) -> Any:
-    return sa.select(table).where(*conditions).order_by(table.c.path, table.c.member, table.c.number)
+    return sa.select(*shown(table)).where(*conditions).order_by(table.c.path, table.c.member, table.c.number)
 
 
 def is_weak(table: Any = SIGNERS.c) -> Any:
@@ -90,9 +164,9 @@ def is_weak(table: Any = SIGNERS.c) -> Any:
     return is_digest | is_signature | (table.key.in_(("RSA", "DSA")) & (table.bits < FEWEST_BITS))
 
 
-def signers(store: Store) -> Iterator[Row]:
+def signers(store: Store, filters: Filters = ALL) -> Iterator[Row]:
     """Gives the signers and countersigners of the messages."""
-    return store.asked(_joined(SIGNERS))
+    return store.asked(filters.of(_joined(SIGNERS), SIGNERS))
 
 
 class UsedBy(str, Enum):
@@ -112,15 +186,15 @@ def is_weak_certificate(table: Any = SIGNERS.c) -> Any:
     return sa.or_(*(table.certificate.like(f"%-{it}") for it in WEAK_DIGESTS))
 
 
-def weak(store: Store) -> Iterator[Row]:
+def weak(store: Store, filters: Filters = ALL) -> Iterator[Row]:
     """Gives what uses MD5, SHA-1 or a short key: signers, the signatures of their certificates, imprints of time-stamps, and manifests."""
-    for row in store.asked(_joined(SIGNERS, is_weak())):
+    for row in store.asked(filters.of(_joined(SIGNERS, is_weak()), SIGNERS)):
         yield {**row, "of": UsedBy.SIGNER.value}
-    for row in store.asked(_joined(SIGNERS, is_weak_certificate())):
+    for row in store.asked(filters.of(_joined(SIGNERS, is_weak_certificate()), SIGNERS)):
         yield {**row, "digest": None, "signature": row["certificate"], "key": None, "bits": None, "of": UsedBy.CERTIFICATE.value}
-    for row in store.asked(_joined(TIMES, TIMES.c.digest.in_(WEAK_DIGESTS))):
+    for row in store.asked(filters.of(_joined(TIMES, TIMES.c.digest.in_(WEAK_DIGESTS)), TIMES)):
         yield {**row, "signature": None, "key": None, "bits": None, "of": UsedBy.TIME_STAMP.value}
-    for row in store.rows(FILES.c.note.like("%compares by % alone%")):
+    for row in _files(store, filters, FILES.c.note.like("%compares by % alone%")):
         for digest in _weak_in(row["note"]):
             alone = {"digest": digest, "signature": None, "key": None, "bits": None, "number": "", "of": UsedBy.MANIFEST.value}
             yield {"path": row["path"], "member": row["member"], **alone}
@@ -131,36 +205,44 @@ def _weak_in(note: str) -> List[str]:
     return sorted({it for found in WEAK_ALONE.findall(note) for it in found if it})
 
 
-def algorithms(store: Store) -> Iterator[Row]:
+def algorithms(store: Store, filters: Filters = ALL) -> Iterator[Row]:
     """Gives which algorithms and keys signers, the signatures of certificates, imprints and weak manifests use, and how many there are of each."""
     columns = [SIGNERS.c[it] for it in _ALGORITHMS]
     is_weak_one = sa.func.max(sa.case((is_weak(), 1), else_=0)).label("is_weak")
     asked = sa.select(*columns, sa.func.count().label("signers"), is_weak_one).group_by(*columns).order_by(sa.func.count().desc(), *columns)
-    for row in store.asked(asked):
+    for row in store.asked(filters.where(asked, SIGNERS)):
         yield {**row, "is_weak": bool(row["is_weak"]), "of": UsedBy.SIGNER.value}
-    yield from _counted(store, SIGNERS.c.certificate, "signature", UsedBy.CERTIFICATE)
-    yield from _counted(store, TIMES.c.digest, "digest", UsedBy.TIME_STAMP)
-    manifests = Counter(it for row in store.rows(FILES.c.note.like("%compares by % alone%")) for it in _weak_in(row["note"]))
+    yield from _counted(store, filters, SIGNERS, "certificate", "signature", UsedBy.CERTIFICATE)
+    yield from _counted(store, filters, TIMES, "digest", "digest", UsedBy.TIME_STAMP)
+    weak_ones = _files(store, filters, FILES.c.note.like("%compares by % alone%"))
+    manifests = Counter(it for row in weak_ones for it in _weak_in(row["note"]))
     for digest, count in sorted(manifests.items()):
         yield {**dict.fromkeys(_ALGORITHMS), "digest": digest, "signers": count, "is_weak": True, "of": UsedBy.MANIFEST.value}
 
 
-def _counted(store: Store, column: Any, name: str, of: UsedBy) -> Iterator[Row]:
-    counts = sa.select(column.label("algorithm"), sa.func.count().label("count")).where(column.is_not(None)).group_by(column)
-    asked = counts.order_by(sa.func.count().desc(), column)
-    for row in store.asked(asked):
+def _counted(store: Store, filters: Filters, table: Any, column: str, name: str, of: UsedBy) -> Iterator[Row]:
+    own = table.c[column]
+    counts = sa.select(own.label("algorithm"), sa.func.count().label("count")).where(own.is_not(None)).group_by(own)
+    for row in store.asked(filters.where(counts, table).order_by(sa.func.count().desc(), own)):
         is_weak_one = str(row["algorithm"]).rpartition("-")[2] in WEAK_DIGESTS
         yield {**dict.fromkeys(_ALGORITHMS), name: row["algorithm"], "signers": row["count"], "is_weak": is_weak_one, "of": of.value}
 
 
-def times(store: Store) -> Iterator[Row]:
+def times(store: Store, filters: Filters = ALL) -> Iterator[Row]:
     """Gives the times that tokens vouch for, as messages and in unsigned attributes."""
-    return store.asked(_joined(TIMES))
+    return store.asked(filters.of(_joined(TIMES), TIMES))
 
 
 _OTHERS = (Class.OTHER.value, Class.NOT_LOOKED_INTO.value)
 
 
-def others(store: Store) -> Iterator[Row]:
+def others(store: Store, filters: Filters = ALL) -> Iterator[Row]:
     """Gives what is signed by another format, and what is not looked into."""
-    return store.rows(FILES.c.what.in_(_OTHERS), order=(FILES.c.what, FILES.c.form, FILES.c.path, FILES.c.member))
+    return _files(store, filters, FILES.c.what.in_(_OTHERS), order=(FILES.c.what, FILES.c.form))
+
+
+def files(store: Store, all_of_them: bool, filters: Filters = ALL) -> Iterator[Row]:
+    """Gives all files and what is in them, or only the files in which there is no message."""
+    own = (PLACES.c.part == FILES.c.of_part) & (PLACES.c.file == FILES.c.of_file) & (PLACES.c.what == Class.MESSAGE.value)
+    is_without = (FILES.c.member == "") & ~sa.exists().where(own).correlate(FILES)
+    return _files(store, filters, *([] if all_of_them else [is_without]))

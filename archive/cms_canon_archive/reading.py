@@ -148,10 +148,10 @@ def metered(found: Found, content: Content, path: str, left: List[int]) -> Found
 # ---- rows
 
 
-def judged_or_not(found: Found, verifies: bool) -> Facts:
+def judged_or_not(found: Found, verifies: bool, certificates: Sequence[bytes] = ()) -> Facts:
     """Returns what is known of what was found. If memory runs out, that ends this file alone."""
     try:
-        return judged(found, verifies)
+        return judged(found, verifies, certificates)
     except MemoryError:
         return Facts(what=Class.UNREADABLE, note="out of memory")
 

@@ -23,7 +23,7 @@ from .migrating import WrongVersion, alone, migrate, newer, version_in
 from .opening import NoIndex, NoStore, engine_of, is_sqlite, is_writable, own_files, url_of, without_password
 from .reading import MOST, Part, Row
 from .tables import ABOUT, ALLOWED, BY_DIGEST, FILES, LISTS, MOST_OF_A_KEY, NOT_NEGATIVE, OF_PARTS, PARTS, PLACES, REASONS, SCHEMA, SIGNERS, TIMES
-from .tables import Digest, PartState, columns_of, insertion, is_digest
+from .tables import Digest, PartState, columns_of, insertion, is_digest, shown
 from .texts import chunk_of, folder_and_name
 
 __all__ = ["FILES", "SIGNERS", "TIMES", "NoStore", "Store", "is_row", "url_of", "without_password"]
@@ -253,7 +253,7 @@ class Store:
 
     def rows(self, *conditions: Any, order: Sequence[Any] = (FILES.c.path, FILES.c.member)) -> Iterator[Row]:
         """Gives the rows of files and members that meet the conditions."""
-        return self.asked(sa.select(FILES).where(*conditions).order_by(*order))
+        return self.asked(sa.select(*shown(FILES)).where(*conditions).order_by(*order))
 
 
 def _keys_of(connection: sa.engine.Connection, paths: Sequence[str]) -> Dict[str, Tuple[int, str]]:

@@ -268,14 +268,27 @@ PATH = sa.case(  # that of a file; of a folder that cannot be read its own, with
 )
 
 
+_OF_PART, _OF_FILE = "of_part", "of_file"  # by which rows of the same place are found, and which nobody is shown
+
+
 def _asked_of(name: str, table: sa.Table) -> Any:
-    """Returns a table with the path of each row in place of its part."""
+    """Returns a table with the path of each row, and its part and file under other names."""
     path = PARTS.c.path.concat(PARTS.c.name).concat(table.c.file) if table is not PLACES else PATH
-    columns = (path.label("path"), table.c.member, *columns_of(table))
+    columns = (path.label("path"), table.c.member, table.c.part.label(_OF_PART), table.c.file.label(_OF_FILE), *columns_of(table))
     return sa.select(*columns).select_from(table.join(PARTS, PARTS.c.id == table.c.part)).subquery(name)
 
 
 FILES, SIGNERS, TIMES = (_asked_of(*it) for it in (("files", PLACES), ("signers", PLACE_SIGNERS), ("times", PLACE_TIMES)))
+
+
+def shown(asked: Any) -> List[Any]:
+    """Returns the columns of what is asked that are shown."""
+    return [it for it in asked.c if it.name not in (_OF_PART, _OF_FILE)]
+
+
+def of_same_place(table: sa.Table, asked: Any) -> Any:
+    """Returns the condition that a row of a table is of the same place as one that is asked."""
+    return (table.c.part == asked.c[_OF_PART]) & (table.c.file == asked.c[_OF_FILE]) & (table.c.member == asked.c.member)
 
 
 class _Hexadecimal(sa.sql.ColumnElement):  # type: ignore[misc]  # SQLAlchemy 1.4 has no types
@@ -302,6 +315,6 @@ def views() -> Dict[str, Any]:
     """Returns what is asked of the tables as views of the database, by their names."""
     found: Dict[str, Any] = {}
     for asked in (FILES, SIGNERS, TIMES):
-        shown = [it if not isinstance(it.type, Digest) else sa.case((it.is_not(None), _Hexadecimal(it))).label(it.name) for it in asked.c]
-        found[asked.name] = sa.select(*shown)
+        columns = [it if not isinstance(it.type, Digest) else sa.case((it.is_not(None), _Hexadecimal(it))).label(it.name) for it in shown(asked)]
+        found[asked.name] = sa.select(*columns)
     return found

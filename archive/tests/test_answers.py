@@ -85,7 +85,7 @@ def test_long_path(home, make):
             os.chdir("d" * 200)
         Path("deep.p7m").write_bytes(make.cms(b"deep", "-nodetach"))
     for words in ((), ()):
-        command(home, "index", top, "--store", "long.db", "--jobs", 1, *words)
+        command(home, "index", top, "--store", "long.db", "--jobs", 1, *words, status=3)
         rows = [(it.what, it.error) for it in store_of(home / "long.db") if it.what == "unreadable"]
         count_same("a folder whose path is too long", rows, [("unreadable", "File name too long")])
     refusals = lines_of(home, "refusals", "--store", "long.db")

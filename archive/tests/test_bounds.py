@@ -127,6 +127,12 @@ def parts(part: bytes, times: int, is_too_large: bool = True) -> Evil:
     return mail(b"Content-Type: multipart/mixed; boundary=b\n\n%s--b--\n" % ((b"--b\nContent-Type: " + part + b"\n") * times), is_too_large)
 
 
+def zip_in_a_mail(make: Maker) -> Evil:
+    attached = zip_of(make, 19_000, "a%d.p7s", b"0\x80\6\x09*\x86H\x86\xf7\r\1\7\2" + b"x" * 100).octets
+    head = b"Content-Type: application/zip; name=a.zip\nContent-Transfer-Encoding: base64\n\n"
+    return mail(head + base64.encodebytes(attached))
+
+
 def evil_mails(make: Maker) -> Dict[str, Evil]:
     multipart, mixed, lines = b"Content-Type: multipart/%s; boundary=b%%d\n\n--b%%d\n%%s\n%s--b%%d--\n", b"mixed", b"y" * 76 + b"\n"
     signature = b"--b%d\nContent-Type: application/pkcs7-signature\n\nMIIB\n"
@@ -147,6 +153,7 @@ def evil_mails(make: Maker) -> Dict[str, Evil]:
         "parts with PDFs.eml": parts(b"a/b\n\n%PDF-", 100_000),
         "parts with messages.eml": parts(b"a/b\n\n" + b"-----BEGIN CMS-----\nMA==\n-----END CMS-----\n" * 2, 100_000),
         "parts with mails.eml": parts(deep, 20_000),
+        "zip.eml": zip_in_a_mail(make),
         "signed parts.eml": parts(b"multipart/signed; boundary=c\n\n--c\n\nx\n--c\nContent-Type: application/pkcs7-signature\n\n0\n--c--", 100_000),
         "many.mbox": mail(mbox, is_too_large=True),
         "many.mbox.gz": Evil(gzip.compress(mbox), 1 << 20),
@@ -192,15 +199,33 @@ def evils(make: Maker) -> Dict[str, Evil]:
     }
 
 
-def costs(home: Path, paths: List[Path]) -> List[list]:
-    """Returns what each container costs: octets of memory, seconds, octets read, messages, and what is said to be too large."""
-    lines = []
-    for path in paths:
-        words = [sys.executable, "-c", READING, path]
-        ran = subprocess.run(words, cwd=home, env=environment_of(home), capture_output=True, text=True, timeout=600)
-        assert ran.returncode == 0, ran.stderr[-800:]
-        lines.append(json.loads(ran.stdout))
-    return lines
+class Cost(NamedTuple):
+    """What a container costs: octets of memory, seconds, octets read, messages, and what is said to be too large."""
+
+    memory: int
+    seconds: float
+    octets: int
+    messages: int
+    rows: List[List[str]]
+
+    def __str__(self) -> str:
+        return f"{self.memory >> 20} MB, {self.seconds:.1f} s, {self.octets:,} octets, {self.rows}"
+
+
+def measured(home: Path, path: Path) -> Cost:
+    words = [sys.executable, "-c", READING, path]
+    ran = subprocess.run(words, cwd=home, env=environment_of(home), capture_output=True, text=True, timeout=600)
+    assert ran.returncode == 0, ran.stderr[-800:]
+    return Cost(*json.loads(ran.stdout))
+
+
+def cost_within(home: Path, path: Path, largest: int) -> Tuple[bool, Cost]:
+    """Returns whether one of up to three measurements is within the bounds, and the last: what else the machine does only adds to a cost."""
+    for _ in range(3):
+        cost = measured(home, path)
+        if cost.memory <= MEMORY + 2 * largest and cost.seconds <= most_seconds(cost.octets, cost.messages, slowness()):
+            return True, cost
+    return False, cost
 
 
 def most_seconds(octets: int, messages: int, slower: float) -> float:
@@ -211,14 +236,11 @@ def most_seconds(octets: int, messages: int, slower: float) -> float:
 def test_evil(home, make):
     some = evils(make)
     write_files(home, {name: it.octets for name, it in some.items()})
-    before, found = slowness(), [*costs(home, [home / name for name in some])]
-    slower = max(before, slowness())
-    for (name, it), (memory, seconds, octets, messages, rows) in zip(some.items(), found):
-        is_bound = memory <= MEMORY + 2 * it.largest and seconds <= most_seconds(octets, messages, slower)
-        is_said = not it.is_too_large or any("more than" in note for _, note in rows)
-        came = f"{memory >> 20} MB, {seconds:.1f} s, {octets:,} octets, {rows}"
-        count_if(f"the bounds for {name}", is_bound and is_said, came)
-        print(name, came)
+    for name, it in some.items():
+        is_bound, cost = cost_within(home, home / name, it.largest)
+        is_said = not it.is_too_large or any("more than" in note for _, note in cost.rows)
+        count_if(f"the bounds for {name}", is_bound and is_said, cost)
+        print(name, cost)
 
 
 def at_random(make: Maker, random: Random) -> Evil:
@@ -237,13 +259,13 @@ def at_random(make: Maker, random: Random) -> Evil:
 
 def test_search(home, make):
     """No container that is made at random costs more than it may."""
-    random, slower = Random(SEED), slowness()
+    random = Random(SEED)
     end, number, wrong = time.monotonic() + SEARCHING, 0, []
     while time.monotonic() < end:
         it, number = at_random(make, random), number + 1
         path = home / ("evil.asice" if b"ASiCManifest" in it.octets else "evil.jar")
         path.write_bytes(it.octets)
-        ((memory, took, octets, messages, rows),) = costs(home, [path])
-        if memory > MEMORY + 2 * it.largest or took > most_seconds(octets, messages, slower):
-            wrong.append(f"{number}: {memory >> 20} MB, {took:.1f} s, {octets:,} octets, {rows}")
+        is_bound, cost = cost_within(home, path, it.largest)
+        if not is_bound:
+            wrong.append(f"{number}: {cost}")
     count_if(f"the bounds for {number} containers at random", number and not wrong, wrong[:3])

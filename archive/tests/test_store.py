@@ -122,19 +122,21 @@ def test_files(home, folder, made, place):
     """`show` and `convert` take whatever a message is kept in; no file is written over."""
     shown = command(home, "show", folder / "one.pdf")
     count_if("show", shown.startswith(f"{folder}/one.pdf!{place}\nkind: signed-data\n"), shown[:200])
-    count_same("show, no message", command_says(home, "show", folder / "text.txt", status=1), "there is no message\n")
+    count_same("show, no message", command_says(home, "show", folder / "text.txt", status=1), f"{folder}/text.txt: there is no message\n")
     (row,) = lines_of(home, "show", folder / "one.pdf")
     count_same("show --json", (row["file"], row["message"]["kind"], row["why_not"]), (f"{folder}/one.pdf!{place}", "signed-data", None))
-    count_same("show --json, no message", lines_of(home, "show", folder / "text.txt", status=1), [])
+    none = [{"file": f"{folder}/text.txt", "why_not": "there is no message"}]
+    count_same("show --json, no message", lines_of(home, "show", folder / "text.txt", status=1), none)
     exported = lines_of(home, "export", "--to", home / "exported", "--store", "asked.db")
     count_same("export --json", [it["why_not"] for it in exported], [None] * 8)
-    count_same("index --json", lines_of(home, "index", folder, "--store", "asked.db"), [{"read": 0, "unchanged": len(made.files), "gone": 0}])
+    (row,) = lines_of(home, "index", folder, "--store", "asked.db")
+    count_same("index --json", {it: row[it] for it in ("read", "unchanged", "gone")}, {"read": 0, "unchanged": len(made.files), "gone": 0})
     to = home / "converted"
     command(home, "convert", folder / "one.pdf", folder / "=formula\u202e.p7s", folder / "doc.p7s", "--to", to)
     count_same("convert", {it.name for it in to.iterdir()}, {f"one.pdf!{place}", "=formula\u202e.p7s", "doc.p7s"})
     count_same("converted from PEM", (to / "=formula\u202e.p7s").read_bytes()[:1], b"\x30")
     (to / "doc.p7s").write_bytes(b"other")
-    said = command_says(home, "convert", folder / "doc.p7s", "--to", to, status=1)
+    said = command_says(home, "convert", folder / "doc.p7s", "--to", to, status=3)
     count_if("convert does not write over", (to / "doc.p7s").read_bytes() == b"other" and "there is a file of other octets" in said, said)
     version = command(home, "--version")
     count_if("version", version.startswith("cms-canon-archive "), version)
@@ -334,8 +336,8 @@ def test_old_stores(home, folder):
         with sqlite3.connect(home / name) as connection:
             connection.executescript(script)
     came = {Path(it["file"]).name: it["state"] for it in lines_of(home, "check", "--store", "old asked.db")}
-    count_same("a store of 0.4.0 that is asked", came, {"doc.bin.p7s": None, "doc.tst": None, "q.tsq": None})
-    command(home, "index", folder, "--store", old)
+    count_same("a store of 0.4.0 that is asked", came, {"doc.bin.p7s": None, "doc.tst": None})
+    command(home, "index", folder, "--store", old, status=3)
     count_same("a store of 0.4.0 that is indexed", of_first(old), FIRST_STORE_SAYS)
     asked(old, "UPDATE about SET value = '5' WHERE name = 'schema'")
     for words in (("check",), ("index", folder)):
@@ -404,7 +406,7 @@ def test_old_stores_on_postgresql(home, folder, server):
     with sqlalchemy.create_engine(url, poolclass=sqlalchemy.pool.NullPool).begin() as connection:
         connection.exec_driver_sql(FIRST_STORE.partition("INSERT")[0])
         connection.exec_driver_sql(f"INSERT INTO files VALUES ({', '.join(['%s'] * 15)})", rows)
-    command(home, "index", folder, "--store", url)
+    command(home, "index", folder, "--store", url, status=3)
     count_same("a store of 0.4.0 on PostgreSQL", of_first(url), FIRST_STORE_SAYS)
     url = server.make_database("second")
     for statement in filter(str.strip, SECOND_STORE.split(";\n")):
@@ -439,7 +441,7 @@ def test_replaced(home, archive, make):
     said = command_says(home, "export", "--to", home / "replaced copies", "--store", "replaced.db", status=1)
     count_same("export of files that were replaced", sorted(line.rpartition(": ")[2] for line in said.splitlines()), sorted(errors))
     said = command_says(home, "index", folder, "--store", "replaced.db")
-    count_same("files that are no files any more", said, "0 files read, 0 unchanged, 2 gone\n")
+    count_same("files that are no files any more", said.splitlines()[0], "0 files read, 0 unchanged, 2 gone")
 
 
 # Runs a command, and prints the peak of memory of its processes. What pytest begins would have that of pytest, from which it is forked.
@@ -490,7 +492,7 @@ def test_want_of_memory(home, make):
     done = ended(home, "index", folder, "--store", "memory.db", "--jobs", 1, **limit)
     rows = {Path(row.path).name: (row.what, "memory" in (row.error or "")) for row in store_of(home / "memory.db")}
     wanted = {"large.pdf": ("unreadable", True), "doc.p7s": ("message", False), "zz.p7s": ("message", False)}
-    count_if("want of memory", (done.returncode, rows) == (0, wanted), rows, done)
+    count_if("want of memory", (done.returncode, rows) == (3, wanted), rows, done)
 
 
 def test_many(home, make):

@@ -1,6 +1,6 @@
 """The packages for Debian, by dpkg-deb. What each is and depends on is in packaging/debian/NAME.control.
 
-They are not made by debhelper, since what is packed was proved and built elsewhere. They depend on `sse4.2-support`, which refuses
+They are not made by debhelper, since what is packed was proved and built elsewhere. Those for amd64 depend on `sse4.2-support`, which refuses
 processors older than x86-64-v2. `python3-cms-canon` has a link to the library of `libcms-canon0`, and no copy, so that one library in a
 system is updated once. What `cms-canon-archive` imports at its start is in its Depends.
 """
@@ -20,7 +20,6 @@ from .python import ARCHIVE, BINDING, about, manual, modules
 from .tools import run
 
 REVISION = "1"  # of what is packaged, for the same version
-LIBRARIES = "usr/lib/x86_64-linux-gnu"
 PYTHON = "usr/lib/python3/dist-packages"
 SONAME = "libcms_canon.so.0"
 CONTROL_FILES = ("postinst", "prerm", "shlibs", "symbols", "triggers")
@@ -38,8 +37,9 @@ class Package:
     """A package, and what gives its files but for its documents."""
 
     name: str
-    architecture: str
     entries: Callable[[Release], Iterable[Entry]]
+    is_for_all: bool = False
+    """Whether it has no code of a processor, and is for each of them."""
 
 
 def command(release: Release) -> Iterable[Entry]:
@@ -52,24 +52,29 @@ def command(release: Release) -> Iterable[Entry]:
     yield File("usr/share/fish/vendor_completions.d/cms-canon.fish", (completions / "cms-canon.fish").read_bytes())
 
 
+def libraries(release: Release) -> str:
+    """Returns the folder of libraries."""
+    return f"usr/lib/{release.target.libraries}"
+
+
 def library(release: Release) -> Iterable[Entry]:
     """Yields the shared library."""
-    yield File(f"{LIBRARIES}/{SONAME}", release.octets_of("libcms_canon.so"))
+    yield File(f"{libraries(release)}/{SONAME}", release.octets_of("libcms_canon.so"))
 
 
 def development(release: Release) -> Iterable[Entry]:
     """Yields what a program in C is compiled and linked with."""
     yield File("usr/include/cms_canon.h", release.octets_of("cms_canon.h"))
-    yield File(f"{LIBRARIES}/libcms_canon.a", release.octets_of("libcms_canon.a"))
-    yield Link(f"{LIBRARIES}/libcms_canon.so", SONAME)
-    yield File(f"{LIBRARIES}/pkgconfig/cms_canon.pc", pkg_config(release))
+    yield File(f"{libraries(release)}/libcms_canon.a", release.octets_of("libcms_canon.a"))
+    yield Link(f"{libraries(release)}/libcms_canon.so", SONAME)
+    yield File(f"{libraries(release)}/pkgconfig/cms_canon.pc", pkg_config(release))
 
 
 def pkg_config(release: Release) -> bytes:
     """Returns the file for pkg-config, with the folder that Debian has for the libraries of this architecture."""
     text = (TOP / "bindings" / "c" / "cms_canon.pc.in").read_text(encoding="ascii")
     filled_in = text.replace("@PREFIX@", "/usr").replace("@VERSION@", release.version)
-    placed = filled_in.replace("libdir=${prefix}/lib\n", "libdir=${prefix}/lib/x86_64-linux-gnu\n")
+    placed = filled_in.replace("libdir=${prefix}/lib\n", f"libdir=${{prefix}}/lib/{release.target.libraries}\n")
     if placed == filled_in:
         raise Refused("bindings/c/cms_canon.pc.in has no line `libdir=${prefix}/lib`")
     return placed.encode()
@@ -79,7 +84,7 @@ def python(release: Release) -> Iterable[Entry]:
     """Yields the package for Python, over the library of libcms-canon0."""
     for file in [*modules(BINDING, release), *about(BINDING, release)]:
         yield file._replace(name=f"{PYTHON}/{file.name}")
-    yield Link(f"{PYTHON}/cms_canon/libcms_canon.so", f"../../../x86_64-linux-gnu/{SONAME}")
+    yield Link(f"{PYTHON}/cms_canon/libcms_canon.so", f"../../../{release.target.libraries}/{SONAME}")
 
 
 def archive(release: Release) -> Iterable[Entry]:
@@ -99,12 +104,12 @@ def java(jar: bytes, release: Release) -> Iterable[Entry]:
 def all_packages(jar: bytes) -> List[Package]:
     """Returns the packages; that for Java has this jar."""
     return [
-        Package("cms-canon", "amd64", command),
-        Package("libcms-canon0", "amd64", library),
-        Package("libcms-canon-dev", "amd64", development),
-        Package("python3-cms-canon", "amd64", python),
-        Package("cms-canon-archive", "all", archive),
-        Package("libcms-canon-java", "all", partial(java, jar)),
+        Package("cms-canon", command),
+        Package("libcms-canon0", library),
+        Package("libcms-canon-dev", development),
+        Package("python3-cms-canon", python),
+        Package("cms-canon-archive", archive, is_for_all=True),
+        Package("libcms-canon-java", partial(java, jar), is_for_all=True),
     ]
 
 
@@ -135,6 +140,11 @@ def documents(name: str) -> Iterable[File]:
     yield File(f"{folder}/changelog.gz", gzipped((TOP / "CHANGELOG.md").read_bytes()))
 
 
+def architecture(package: Package, release: Release) -> str:
+    """Returns the architecture as Debian names it."""
+    return "all" if package.is_for_all else release.target.debian
+
+
 def control(package: Package, release: Release, entries: List[Entry]) -> str:
     """Returns the control file of a package, whose size is counted as dpkg-gencontrol counts it: KiB, and 1 for what is no file."""
     folders = {folder for entry in entries for folder in Path(entry.name).parents}
@@ -142,7 +152,8 @@ def control(package: Package, release: Release, entries: List[Entry]) -> str:
     template = (TEMPLATES / "debian" / f"{package.name}.control").read_text(encoding="utf-8")
     values = {
         "VERSION": f"{release.version}-{REVISION}",
-        "ARCHITECTURE": package.architecture,
+        "ARCHITECTURE": architecture(package, release),
+        "PROCESSOR": release.target.processor,
         "SIZE": str(size),
         "MAINTAINER": f"{PROJECT['authors']} <{PROJECT['mail']}>",
         "GLIBC_OF_COMMAND": release.glibc_of("cms-canon"),
@@ -163,14 +174,21 @@ def control_files(package: Package, release: Release, entries: List[Entry]) -> I
             yield File(f"DEBIAN/{name}", template.read_bytes(), 0o755 if name in ("postinst", "prerm") else 0o644)
 
 
-def packages(release: Release, jar: bytes, work: Path) -> Dict[str, bytes]:
-    """Returns the octets of each package by its name. Their files are put together in a folder of their own."""
-    made = {}
+def packed(package: Package, release: Release, work: Path) -> Dict[str, bytes]:
+    """Returns the octets of a package by its name. Its files are put together in a folder of their own."""
+    name = f"{package.name}_{release.version}-{REVISION}_{architecture(package, release)}.deb"
+    folder = work / name.removesuffix(".deb")
+    entries = sorted([*package.entries(release), *documents(package.name)], key=lambda it: it.name)
+    put_below(folder, [*entries, *control_files(package, release, entries)], release.epoch)
+    words = ["dpkg-deb", "--root-owner-group", "-Zxz", "-z9", "--threads-max=1", "--build", folder, work / name]
+    run(words, release.epoch)
+    return {name: (work / name).read_bytes()}
+
+
+def packages(releases: List[Release], jar: bytes, work: Path) -> Dict[str, bytes]:
+    """Returns the octets of each package by its name."""
+    made: Dict[str, bytes] = {}
     for package in all_packages(jar):
-        folder, name = work / package.name, f"{package.name}_{release.version}-{REVISION}_{package.architecture}.deb"
-        entries = sorted([*package.entries(release), *documents(package.name)], key=lambda it: it.name)
-        put_below(folder, [*entries, *control_files(package, release, entries)], release.epoch)
-        words = ["dpkg-deb", "--root-owner-group", "-Zxz", "-z9", "--threads-max=1", "--build", folder, work / name]
-        run(words, release.epoch)
-        made[name] = (work / name).read_bytes()
+        for release in releases[:1] if package.is_for_all else releases:
+            made.update(packed(package, release, work))
     return made

@@ -1,4 +1,4 @@
-"""The jars for Java: classes with the library, documentation and sources, and the POM beside them.
+"""The jars for Java: classes with the library for each target, documentation and sources, and the POM beside them.
 
 The jar's own library comes before that of the system, though JNA looks for it last, or a jar would run with another version that happens to
 be installed. A folder in `jna.library.path` comes before both.
@@ -15,7 +15,6 @@ from .project import LICENSE_FILES, PROJECT, TEMPLATES, TOP, Release
 from .tools import JNA, run
 
 SOURCES = TOP / "bindings" / "java" / "src"
-LIBRARY = "linux-x86-64/libcms_canon.so"  # where JNA looks in a jar
 GROUP, ARTIFACT = "cmscanon", "cms-canon"
 
 
@@ -69,14 +68,15 @@ def jar_of_classes(release: Release, classes: List[File]) -> bytes:
     return zipped([manifest(release), *licenses(), *classes], release.epoch)
 
 
-def jars(release: Release, classes: List[File], work: Path) -> Dict[str, bytes]:
+def jars(releases: List[Release], classes: List[File], work: Path) -> Dict[str, bytes]:
     """Returns the octets of the jars and of the POM by their names."""
+    release = releases[0]
     name = f"{ARTIFACT}-{release.version}"
     shared = [manifest(release), *licenses()]
     description = File(f"META-INF/maven/{GROUP}/{ARTIFACT}/pom.xml", pom(release))
-    library = File(LIBRARY, release.octets_of("libcms_canon.so"))
+    libraries = [File(f"{it.target.jna}/libcms_canon.so", it.octets_of("libcms_canon.so")) for it in releases]
     return {
-        f"{name}.jar": zipped([*shared, description, *classes, library], release.epoch),
+        f"{name}.jar": zipped([*shared, description, *classes, *libraries], release.epoch),
         f"{name}-javadoc.jar": zipped([*shared, *documented(release, work)], release.epoch),
         f"{name}-sources.jar": zipped([*shared, *files_below(SOURCES)], release.epoch),
         f"{name}.pom": pom(release),

@@ -1,6 +1,6 @@
 """Makes all packages in a folder beside those that are there, and puts them in their place once all of them are made.
 
-`packages` and `SHA256SUMS` are put in place by two renames. If the machine stops between them, the sums do not fit, which the next
+`packages`, the page and `SHA256SUMS` are put in place by three renames. If the machine stops between them, the sums do not fit, which the next
 `sha256sum --check` says.
 """
 
@@ -9,21 +9,21 @@ import os
 import secrets
 import shutil
 from pathlib import Path
-from typing import Dict
+from typing import Dict, List
 
-from . import debian, java, python, rust
-from .project import BINARIES, Refused, Release, release_in
+from . import debian, java, python, rust, web
+from .project import BINARIES, Refused, Release, releases_in
 from .sbom import sbom
 from .tools import versions
 
-RELEASED = "x86_64-linux"  # the folder of the binaries below dist/
 PACKAGES = "packages"
+MODULE = "wasm32"  # the folder of the module below dist/
 SUMS = "SHA256SUMS"
 
 
-def binaries(release: Release) -> Dict[str, bytes]:
-    """Returns the octets of the binaries and of their MANIFEST, by their paths below dist/."""
-    return {f"{RELEASED}/{name}": release.octets_of(name) for name in (*BINARIES, "MANIFEST")}
+def binaries(releases: List[Release]) -> Dict[str, bytes]:
+    """Returns the octets of the binaries and of their MANIFESTs, by their paths below dist/."""
+    return {f"{it.folder.name}/{name}": it.octets_of(name) for it in releases for name in (*BINARIES, "MANIFEST")}
 
 
 def below(folder: str, made: Dict[str, bytes]) -> Dict[str, bytes]:
@@ -31,17 +31,29 @@ def below(folder: str, made: Dict[str, bytes]) -> Dict[str, bytes]:
     return {f"{folder}/{name}": octets for name, octets in made.items()}
 
 
-def packages_of(release: Release, work: Path) -> Dict[str, bytes]:
-    """Returns the octets of all packages by their names, and of what is said of them."""
+def packages_of(releases: List[Release], module: bytes, work: Path) -> Dict[str, bytes]:
+    """Returns the octets of all packages but the bill of materials by their names, and of what is said of them."""
+    release = releases[0]
     tools = versions(release.epoch)
     made = {"TOOLS": "".join(f"{name}: {version}\n" for name, version in tools.items()).encode()}
     classes = java.compiled(release, work)
-    made.update(java.jars(release, classes, work))
-    made.update(debian.packages(release, java.jar_of_classes(release, classes), work))
-    made.update(python.wheels(release))
-    made.update(rust.crate(release, work))
-    made[f"cms-canon-{release.version}.spdx.json"] = sbom(release, {**binaries(release), **below(PACKAGES, made)})
+    made.update(java.jars(releases, classes, work))
+    made.update(debian.packages(releases, java.jar_of_classes(release, classes), work))
+    made.update(python.wheels(releases))
+    made.update(rust.crate(releases, work))
+    made.update(web.npm(release, module))
     return made
+
+
+def released_files(releases: List[Release], released: Path, work: Path) -> Dict[str, bytes]:
+    """Returns the octets of all that is released but the sums, by their paths below dist/."""
+    release = releases[0]
+    module = web.module_in(released / MODULE, release)
+    files = {**binaries(releases), **{f"{MODULE}/{name}": (released / MODULE / name).read_bytes() for name in (web.MODULE, "MANIFEST")}}
+    files[web.PAGE] = web.page(release, module)
+    files.update(below(PACKAGES, packages_of(releases, module, work)))
+    files[f"{PACKAGES}/cms-canon-{release.version}.spdx.json"] = sbom(releases, files)
+    return files
 
 
 def sums_of(files: Dict[str, bytes]) -> bytes:
@@ -50,7 +62,7 @@ def sums_of(files: Dict[str, bytes]) -> bytes:
 
 
 def put_in_place(beside: Path, to: Path) -> None:
-    """Puts the new packages and their sums in the place of the old ones. If the first cannot be moved, the old ones stay."""
+    """Puts the new packages, the page and the sums in the place of the old ones. If the first cannot be moved, the old ones stay."""
     old = beside / "old"
     if (to / PACKAGES).exists():
         os.rename(to / PACKAGES, old)
@@ -60,17 +72,18 @@ def put_in_place(beside: Path, to: Path) -> None:
         if old.exists():
             os.rename(old, to / PACKAGES)
         raise
-    os.replace(beside / SUMS, to / SUMS)
+    for name in (web.PAGE, SUMS):
+        os.replace(beside / name, to / name)
 
 
 def make(released: Path, to: Path) -> None:
-    """Makes the packages of the binaries in a folder: they and their sums are `packages` and `SHA256SUMS` in the other folder.
+    """Makes the packages and the page of the binaries below a folder, as dist/, with the sums of all, in the other folder.
 
     Raises Refused if they cannot be made; what was there before is then as it was.
     """
     os.umask(0o022)
     to = to.absolute()
-    release = release_in(released)
+    releases = releases_in(released)
     # It is named before it is made, so that whatever stops this then, it is removed.
     beside = to / f".new-{secrets.token_hex(4)}"
     try:
@@ -80,11 +93,12 @@ def make(released: Path, to: Path) -> None:
         except OSError as error:
             raise Refused(f"{to} cannot be written to: {error.strerror}") from None
         (beside / "work").mkdir()
-        made = packages_of(release, beside / "work")
+        files = released_files(releases, released, beside / "work")
         (beside / PACKAGES).mkdir()
-        for name, octets in made.items():
-            (beside / PACKAGES / name).write_bytes(octets)
-        (beside / SUMS).write_bytes(sums_of({**binaries(release), **below(PACKAGES, made)}))
+        for name in files:
+            if name == web.PAGE or name.startswith(f"{PACKAGES}/"):
+                (beside / name).write_bytes(files[name])
+        (beside / SUMS).write_bytes(sums_of(files))
         put_in_place(beside, to)
     except OSError as error:
         raise Refused(f"{error.filename or to} cannot be written: {error.strerror}") from None

@@ -6,7 +6,9 @@ import re
 from dataclasses import dataclass
 from datetime import datetime, timezone
 from pathlib import Path
-from typing import Dict
+from typing import Dict, List
+
+from .targets import TARGETS, Target
 
 TOP = Path(__file__).resolve().parent.parent.parent
 TEMPLATES = TOP / "packaging"
@@ -43,6 +45,7 @@ def dates_of_versions() -> Dict[str, str]:
 class Release:
     """The binaries in a folder, which have the digests that its MANIFEST names."""
 
+    target: Target
     folder: Path
     values: Dict[str, str]
     """The lines `NAME: VALUE` of the MANIFEST."""
@@ -68,8 +71,18 @@ class Release:
         return max(versions, key=lambda it: [*map(int, it.split("."))])
 
 
+def releases_in(folder: Path) -> List[Release]:
+    """Returns the release for each target in its folder. Raises Refused if they are not of the same sources."""
+    releases = [release_in(folder / name) for name in TARGETS]
+    for name in ("version", "kit", "crates", "sources"):
+        if len({it.values.get(name) for it in releases}) > 1:
+            raise Refused(f"the MANIFESTs below {folder} differ in the line `{name}:`")
+    return releases
+
+
 def release_in(folder: Path) -> Release:
-    """Returns the release in a folder. Raises Refused if a file is missing or altered, or if CHANGELOG.md has no date of its version."""
+    """Returns the release in a folder that is named as its target. Raises Refused if a file is missing or altered, or if CHANGELOG.md has no date
+    of its version."""
     try:
         lines = (folder / "MANIFEST").read_text(encoding="ascii").splitlines()
         digests = {name: hashlib.sha256((folder / name).read_bytes()).hexdigest() for name in BINARIES}
@@ -87,4 +100,4 @@ def release_in(folder: Path) -> Release:
     date = dates_of_versions().get(values["version"])
     if date is None:
         raise Refused(f"CHANGELOG.md has no heading `## {values['version']} - YEAR-MONTH-DAY`, from which the files have their date")
-    return Release(folder, values, date)
+    return Release(TARGETS[folder.name], folder, values, date)

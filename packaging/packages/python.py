@@ -1,12 +1,13 @@
 """The projects for Python: their files, and their wheels, which need no build.
 
-That of `cms-canon` has the library, and is named for glibc 2.17, the oldest that pip and PyPI know by number; the library asks for 2.14. That of
+That of `cms-canon` has the library, and is one for each target. It is named for glibc 2.17, the oldest that pip and PyPI know by number. That of
 `cms-canon-archive` is Python alone. `__version__` is in a file that the build of the wheel writes: to ask `importlib.metadata` would double the
 time of the import, and answer for another copy if the package is not the installed one.
 """
 
 import base64
 import hashlib
+import os
 from dataclasses import dataclass
 from pathlib import Path
 from typing import Dict, Iterable, List
@@ -14,6 +15,7 @@ from typing import Dict, Iterable, List
 from .components import third_parties
 from .files import File, files_below, zipped
 from .project import LICENSE, LICENSE_FILES, PROJECT, TOP, Refused, Release, release_in
+from .targets import TARGETS
 
 METADATA = """\
 Metadata-Version: 2.1
@@ -58,8 +60,6 @@ class Project:
     summary: str
     folder: str
     """In the repository: it has the package and README.md."""
-    tag: str
-    """Of the wheel: for which Python, and for which systems."""
     keywords: str
     audience: str
     requires: str
@@ -77,12 +77,15 @@ class Project:
         """Returns the folder of the wheel that says what this is."""
         return f"{self.package}-{version}.dist-info"
 
+    def tag(self, release: Release) -> str:
+        """Returns for which Python the wheel is, and for which systems."""
+        return f"py3-none-{release.target.wheel if self.has_library else 'any'}"
+
 
 BINDING = Project(
     name="cms-canon",
     summary="The one DER encoding of CMS signed messages and of time-stamps, and what their signatures cover",
     folder="bindings/python",
-    tag="py3-none-manylinux_2_17_x86_64",  # the library asks for glibc 2.14; 2.17 is the oldest that such a tag can name for all
     keywords="CMS,PKCS #7,RFC 5652,RFC 3161,DER,BER,ASN.1,time-stamp,signature",
     audience="Developers",
     has_library=True,
@@ -97,7 +100,6 @@ ARCHIVE = Project(
     name="cms-canon-archive",
     summary="Finds the signatures and time-stamps in an archive, and says whether they fit their documents",
     folder="archive",
-    tag="py3-none-any",
     keywords="CMS,PKCS #7,RFC 5652,RFC 3161,PDF,S/MIME,JAR,ASiC,time-stamp,signature,archive",
     audience="System Administrators",
     requires="""\
@@ -178,23 +180,30 @@ def wheel(project: Project, release: Release) -> Dict[str, bytes]:
         *(of_the_library(project, release) if project.has_library else []),
         *of_the_manual(project, release),
         *about(project, release),
-        File(f"{folder}/WHEEL", WHEEL.format(is_pure=str(not project.has_library).lower(), tag=project.tag).encode()),
+        File(f"{folder}/WHEEL", WHEEL.format(is_pure=str(not project.has_library).lower(), tag=project.tag(release)).encode()),
         *(File(f"{folder}/{name}", (TOP / name).read_bytes()) for name in LICENSE_FILES),
     ]
     files.append(record(files, f"{folder}/RECORD"))
-    return {f"{project.package}-{release.version}-{project.tag}.whl": zipped(files, release.epoch)}
+    return {f"{project.package}-{release.version}-{project.tag(release)}.whl": zipped(files, release.epoch)}
 
 
-def wheels(release: Release) -> Dict[str, bytes]:
-    return {**wheel(BINDING, release), **wheel(ARCHIVE, release)}
+def wheels(releases: List[Release]) -> Dict[str, bytes]:
+    """Returns the octets of each wheel by its name."""
+    made = wheel(ARCHIVE, releases[0])
+    for release in releases:
+        made.update(wheel(BINDING, release))
+    return made
 
 
 # ---- the hooks that pip calls (PEP 517)
 
 def build_wheel(project: Project, wheel_directory: str, config_settings: object = None, metadata_directory: object = None) -> str:
     """Writes the wheel into the folder, and returns its name."""
+    machine = os.uname()
     try:
-        ((name, octets),) = wheel(project, release_in(TOP / "dist" / "x86_64-linux")).items()
+        if (of_machine := f"{machine.machine}-{machine.sysname.lower()}") not in TARGETS:
+            raise Refused(f"it is for {' and '.join(TARGETS)}, and this is {of_machine}")
+        ((name, octets),) = wheel(project, release_in(TOP / "dist" / of_machine)).items()
     except Refused as why:
         raise SystemExit(f"the package is built in its repository, from the release in dist/: {why}") from None
     Path(wheel_directory, name).write_bytes(octets)

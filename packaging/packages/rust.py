@@ -1,4 +1,4 @@
-"""The crate for Rust, by cargo, with the static library and the licences in it.
+"""The crate for Rust, by cargo, with the static library for each target and the licences in it.
 
 The crate is packed again, since cargo packs as its version does, and names the commit if there is a git repository.
 """
@@ -18,12 +18,13 @@ CRATE = TOP / "bindings" / "rust"
 OF_MACHINE = ".cargo_vcs_info.json"  # names a commit if the folder lies in a repository
 
 
-def staged(release: Release, work: Path) -> Path:
+def staged(releases: List[Release], work: Path) -> Path:
     """Copies the crate into a folder, with what it has from elsewhere in the repository."""
     folder = work / "crate"
     shutil.copytree(CRATE, folder, ignore=shutil.ignore_patterns("target", ".gitignore"))
-    (folder / "lib").mkdir()
-    (folder / "lib" / "libcms_canon.a").write_bytes(release.octets_of("libcms_canon.a"))
+    for release in releases:
+        (folder / "lib" / release.folder.name).mkdir(parents=True)
+        (folder / "lib" / release.folder.name / "libcms_canon.a").write_bytes(release.octets_of("libcms_canon.a"))
     (folder / "THIRD-PARTIES").write_bytes(third_parties())
     for name in LICENSE_FILES:
         shutil.copyfile(TOP / name, folder / name)
@@ -37,9 +38,9 @@ def members(octets: bytes) -> List[File]:
         return sorted(File(it.name, archive.extractfile(it).read()) for it in entries)
 
 
-def crate(release: Release, work: Path) -> Dict[str, bytes]:
+def crate(releases: List[Release], work: Path) -> Dict[str, bytes]:
     """Returns the octets of the crate by its name."""
-    folder, target = staged(release, work), work / "target"
+    release, folder, target = releases[0], staged(releases, work), work / "target"
     run(["cargo", "package", "--quiet", "--offline", "--no-verify", "--allow-dirty", "--target-dir", target], release.epoch, folder)
     name = f"cms-canon-{release.version}.crate"
     made = target / "package" / name

@@ -15,14 +15,18 @@ from .components import CRATES, KIT, LLVM, Crate, linked_crates
 from .project import LICENSE, PROJECT, Release, homepage
 
 NO_ASSERTION = "NOASSERTION"
-TOOLS = {  # of the system, by whose output the binaries are what they are: how the MANIFEST names them
-    "strip": "GNU strip",
-    "objcopy": "GNU objcopy",
+TOOLS = {  # of the system, by whose output the binaries are what they are: how a MANIFEST names them, their names, and their licences
+    "strip": ("GNU strip", "GPL-3.0-or-later"),
+    "objcopy": ("GNU objcopy", "GPL-3.0-or-later"),
+    "libc": ("GNU C library to link against", "LGPL-2.1-or-later"),
+    "libgcc": ("libgcc to link against", "GPL-3.0-or-later WITH GCC-exception-3.1"),
 }
 FILE_TYPES = {  # by the name of a file or its ending
     "cms-canon": "BINARY",
     ".a": "BINARY",
     ".so": "BINARY",
+    ".wasm": "BINARY",
+    ".html": "TEXT",
     ".h": "SOURCE",
     ".pom": "TEXT",
     "MANIFEST": "TEXT",
@@ -76,20 +80,23 @@ def crate_package(name: str, crate: Crate) -> Dict[str, Any]:
     return package("Crate", name, crate.version, crate.license, comment=comment, copyrightText=text)
 
 
-def tool_packages(release: Release) -> Iterable[Dict[str, Any]]:
+def tool_packages(releases: List[Release]) -> Iterable[Dict[str, Any]]:
     """Yields what is said of the tools that the binaries are made with."""
-    kit, _, logic = release.values["kit"].partition(" ")
+    kit, _, logic = releases[0].values["kit"].partition(" ")
     yield package("Tool", "rattle-kit", kit.rpartition("-")[2], NO_ASSERTION, comment=f"{kit} {logic}: prover, compiler and library.")
     yield package("Tool", "LLVM", LLVM, "Apache-2.0 WITH LLVM-exception", comment=f"Compiler and linker of {KIT}.")
-    for name, title in TOOLS.items():
-        said = release.values.get(name, "")
-        yield package("Tool", title, said.rpartition(" ")[2] or NO_ASSERTION, "GPL-3.0-or-later", comment=said)
+    for release in releases:
+        for name, (title, terms) in TOOLS.items():
+            if said := release.values.get(name):
+                titled = f"{title} for {release.folder.name}"
+                yield package("Tool", titled, said.rpartition(" ")[2], terms, comment=said)
 
 
 def glibc_package(release: Release) -> Dict[str, Any]:
     """Returns what is said of the C library, which is of the machine that the binaries run on."""
     versions = f"{release.glibc_of('cms-canon')} or later for the command, {release.glibc_of('libcms_canon.so')} or later for the library"
-    return package("Library", "glibc", release.glibc_of("libcms_canon.so"), "LGPL-2.1-or-later", comment=f"Needed: {versions}.")
+    name = f"glibc for {release.folder.name}"
+    return package("Library", name, release.glibc_of("libcms_canon.so"), "LGPL-2.1-or-later", comment=f"Needed: {versions}.")
 
 
 def file_entry(name: str, octets: bytes) -> Dict[str, Any]:
@@ -112,7 +119,9 @@ def relationship(one: str, kind: str, other: str) -> Dict[str, str]:
     return {"spdxElementId": one, "relationshipType": kind, "relatedSpdxElement": other}
 
 
-def relationships(release: Release, files: List[Dict[str, Any]], tools: List[Dict[str, Any]]) -> Iterable[Dict[str, str]]:
+def relationships(
+    release: Release, files: List[Dict[str, Any]], tools: List[Dict[str, Any]], libraries: List[Dict[str, Any]]
+) -> Iterable[Dict[str, str]]:
     """Yields how all these belong together."""
     own = identifier("Package", "cms-canon")
     yield relationship("SPDXRef-DOCUMENT", "DESCRIBES", own)
@@ -123,15 +132,17 @@ def relationships(release: Release, files: List[Dict[str, Any]], tools: List[Dic
     for name, crate in CRATES.items():
         for used in crate.uses:
             yield relationship(identifier("Crate", name), "DEPENDS_ON", identifier("Crate", used))
-    yield relationship(own, "DYNAMIC_LINK", identifier("Library", "glibc"))
+    for library in libraries:
+        yield relationship(own, "DYNAMIC_LINK", library["SPDXID"])
     for tool in tools:
         yield relationship(tool["SPDXID"], "BUILD_TOOL_OF", own)
 
 
-def sbom(release: Release, released: Dict[str, bytes]) -> bytes:
+def sbom(releases: List[Release], released: Dict[str, bytes]) -> bytes:
     """Returns the document on these files, by their paths below dist/."""
+    release = releases[0]
     files = [file_entry(name, octets) for name, octets in sorted(released.items())]
-    tools = [*tool_packages(release)]
+    tools, libraries = [*tool_packages(releases)], [glibc_package(it) for it in releases]
     crates = [crate_package(name, crate) for name, crate in CRATES.items()]
     sums = "".join(it["checksums"][1]["checksumValue"] for it in files)
     document = {
@@ -144,8 +155,8 @@ def sbom(release: Release, released: Dict[str, bytes]) -> bytes:
             "created": datetime.fromtimestamp(release.epoch, timezone.utc).strftime("%Y-%m-%dT%H:%M:%SZ"),
             "creators": [f"Organization: {PROJECT['authors']}", f"Tool: cms-canon-packages-{release.version}"],
         },
-        "packages": [own_package(release, files), *crates, *tools, glibc_package(release)],
+        "packages": [own_package(release, files), *crates, *tools, *libraries],
         "files": files,
-        "relationships": [*relationships(release, files, tools)],
+        "relationships": [*relationships(release, files, tools, libraries)],
     }
     return (json.dumps(document, indent=1, ensure_ascii=False) + "\n").encode()

@@ -16,9 +16,10 @@ PACKAGE_OF = {  # the package of Debian that has each tool
     "javac": "openjdk-17-jdk-headless",
     "javadoc": "openjdk-17-jdk-headless",
     "cargo": "cargo, or rustup for Rust 1.73 or later",
+    "esbuild": "esbuild",
 }
 _KEPT = ("PATH", "HOME", "CARGO_HOME", "RUSTUP_HOME", "RUSTUP_TOOLCHAIN", "TMPDIR", "JAVA_HOME")
-_VERSION = {"dpkg-deb": r"version (\S+)", "javac": r"javac (\S+)", "javadoc": r"javadoc (\S+)", "cargo": r"cargo (.+)"}
+_VERSION = {"dpkg-deb": r"version (\S+)", "javac": r"javac (\S+)", "javadoc": r"javadoc (\S+)", "cargo": r"cargo (.+)", "esbuild": r"(\S+)"}
 
 
 def run(words: Sequence, epoch: int, folder: Optional[Path] = None) -> str:

@@ -18,7 +18,7 @@ LENGTHS = {"SHA1": 40, "SHA256": 64}
 RELATIONSHIPS = {"DESCRIBES", "CONTAINS", "DEPENDS_ON", "STATIC_LINK", "DYNAMIC_LINK", "BUILD_TOOL_OF"}
 FILE_TYPES = {"SOURCE", "BINARY", "ARCHIVE", "TEXT", "DOCUMENTATION", "SPDX", "OTHER"}
 LICENSES = {"MIT", "Apache-2.0", "Unlicense", "LGPL-2.1-or-later", "GPL-3.0-or-later"}
-EXCEPTIONS = {"LLVM-exception"}
+EXCEPTIONS = {"LLVM-exception", "GCC-exception-3.1"}
 
 
 def why_no_license(expression: str) -> str:

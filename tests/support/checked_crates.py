@@ -7,6 +7,7 @@ import time
 from dataclasses import dataclass, field
 from pathlib import Path
 
+from packages.rattle import all_below, words_of
 from strip_bodies import without_bodies
 
 TOP = Path(__file__).resolve().parents[2]
@@ -84,16 +85,7 @@ class Crate:
         self.name, self.folder = name, TOP / "crates" / name
         self.edits = [Edit.read(it) for it in sorted(self.folder.glob("must-fail/*.edit"))]
         self.below = [it for it in all_below(name, uses) if it in uses]
-        self.words = [str(kit / "bin/rattle"), "check", "--crate-name", name, "src/lib.rt"]
-        for it in ["std", *(it for it in uses[name] if it not in uses)]:
-            self.words += ["--extern", f"{it}={kit}/rlibs/{it}.rlib"]
-        self.words += ["-L", f"dependency={kit}/rlibs"]
-        for it in uses[name]:
-            if it in uses:
-                self.words += ["--extern", f"{it}={built}/crates/{it}/out/rlib/{it}.rlib"]
-        for it in self.below:
-            self.words += ["-L", f"dependency={built}/crates/{it}/out/rlib"]
-        self.words += ["--antt-project", f"{kit}/rattle/logic/antt-project.json", "--logic-built", f"{kit}/logic_built"]
+        self.words = [str(kit / "bin/rattle"), "check", *words_of(name, uses, built, kit)]
 
     def is_ready(self, told):
         """Waits until `rt ci`, which prints to this file, says that the crates below are proved, or `run-tests` that it has ended."""
@@ -152,10 +144,3 @@ class Crate:
             if at:
                 waiting.add(at[1])
         return Told(goals, waiting - {*goals}, text)
-
-
-def all_below(name, uses):
-    found = []
-    for it in uses.get(name, []):
-        found += [it, *all_below(it, uses)]
-    return list(dict.fromkeys(found))

@@ -13,6 +13,7 @@ from walk import countersignatures_of, fields_of, parts_of
 
 MESSAGES = 40  # made at random
 RUNS = 10  # of some of them, one after another
+SHORT = 20_000  # octets: the longest requests that are also tried under valgrind
 
 HASHES = ("sha1", "sha224", "sha256", "sha384", "sha512", "sha512_224", "sha512_256")  # by their numbers for C, from 1
 DETACHED_TST_INFO = bytes.fromhex("300d060b2a864886f70d0109100104")  # an encapContentInfo
@@ -209,3 +210,13 @@ def requests_of_deep_messages():
 
 def asked_of(asked, *others):
     return [it for it in asked if it[1].split(" ")[0] not in others]
+
+
+def extents():
+    """Gives requests for the extent of each message that is converted, of which the octets come one by one, and of one that is cut."""
+    for name, asked, wanted in requests():
+        call, limit, octets = asked.split(" ")[:3]
+        if call == "convert" and wanted.startswith("0 ") and len(octets) <= 2 * SHORT:
+            length = len(octets) // 2
+            yield f"extent, {name}", f"extent {limit} {octets}", f"1 {length} {length}"
+            yield f"extent, {name}, and octets after it", f"extent {limit} {octets}{octets}", f"1 {length} {length}"

@@ -10,7 +10,7 @@ from typing import Dict, Iterable, List, NamedTuple, Optional, Tuple
 
 TOP = Path(__file__).resolve().parents[2]
 CACHE = TOP / "out" / "debian-12"
-SECONDS = 420  # no command may take longer
+SECONDS = 420  # no command may take longer on this machine
 DAYS = 14  # after which a base that is kept is made again
 SUITE = "bookworm"
 APT = 'APT::Get::Assume-Yes "true";\nAPT::Install-Recommends "false";\nAPT::Keep-Downloaded-Packages "true";\nDpkg::Use-Pty "0";\n'
@@ -59,8 +59,8 @@ def ended(words: List, **how) -> Ended:
     return Ended(done.returncode, done.stdout.decode(errors="replace"), done.stderr.decode(errors="replace"))
 
 
-def succeed(words: List, what: str) -> None:
-    done = ended(words)
+def succeed(words: List, what: str, **how) -> None:
+    done = ended(words, **how)
     if done.status != 0:
         raise OSError(f"{what}: {(done.output + done.error)[-500:]}")
 
@@ -128,13 +128,15 @@ exec "$@"
 
 class Debian:
     """A fresh Debian 12 in a folder, with a user who may call sudo and has a copy of the repository's files, and no more of this machine
-    than its mirror, its network and its Rust. What debootstrap and apt fetch is kept in out/debian-12."""
+    than its mirror, its network and its Rust. What debootstrap and apt fetch is kept in out/debian-12. One of another architecture than
+    this machine's has no Rust, and needs a kernel that has its programs run by qemu."""
 
     name = "Debian 12"
 
-    def __init__(self, folder: Path):
-        self.root = folder / "debian"
-        self.rust = ended(["rustc", "--print", "sysroot"]).output.strip() if shutil.which("rustc") else ""
+    def __init__(self, folder: Path, architecture: str = ""):
+        self.root, self.architecture = folder / "debian", architecture
+        self.seconds = SECONDS * (3 if architecture else 1)  # no command may take longer
+        self.rust = ended(["rustc", "--print", "sysroot"]).output.strip() if shutil.which("rustc") and not architecture else ""
         self._unpack()
         self._configure()
         clone_into(self.root / "home/user/clone")
@@ -159,6 +161,10 @@ class Debian:
         """Runs commands as the user, in the copy of the repository."""
         return self._enter(["setpriv", "--reuid=user", "--regid=user", "--init-groups", "sh", "-e", "-c", f"cd ~/clone\n{words}"])
 
+    def run_as_root(self, words: str) -> Ended:
+        """Runs commands as root, in the user's copy of the repository: programs that qemu runs do not become those of their owner, as sudo does."""
+        return self._enter(["sh", "-e", "-c", f"cd /home/user/clone\n{words}"])
+
     def succeed(self, words: str) -> str:
         """Runs commands as root, and returns what they print. Raises OSError if they fail."""
         done = self._enter(["sh", "-e", "-c", words])
@@ -180,11 +186,11 @@ class Debian:
             "DEBIAN_FRONTEND": "noninteractive", **{name: value for name, value in os.environ.items() if name.endswith("_proxy")},
         }
         unshare = ["unshare", "--mount", "--pid", "--fork", "--kill-child", "sh", "-c", MOUNTS, "sh"]
-        return ended([*unshare, self.root, CACHE / "archives", self.rust, "chroot", self.root, *words], env=environment)
+        return ended([*unshare, self.root, CACHE / "archives", self.rust, "chroot", self.root, *words], env=environment, timeout=self.seconds)
 
     def _unpack(self) -> None:
         """Unpacks the base, which is made first if none is kept, or an old one."""
-        base = CACHE / "base.tar"
+        base = CACHE / f"base{self.architecture}.tar"
         (CACHE / "archives" / "partial").mkdir(parents=True, exist_ok=True)
         if not base.exists() or time.time() - base.stat().st_mtime > DAYS * 86400:
             self._debootstrap(base)
@@ -193,7 +199,8 @@ class Debian:
 
     def _debootstrap(self, base: Path) -> None:
         folder, new = self.root.with_name("base"), base.with_suffix(".new")
-        succeed(["debootstrap", "--variant=minbase", "--include=sudo,ca-certificates", SUITE, folder, mirror()], "debootstrap")
+        of_other = [f"--arch={self.architecture}"] if self.architecture else []
+        succeed(["debootstrap", *of_other, "--variant=minbase", "--include=sudo,ca-certificates", SUITE, folder, mirror()], "debootstrap", timeout=self.seconds)
         shutil.rmtree(folder / "var/cache/apt/archives", ignore_errors=True)
         (folder / "var/cache/apt/archives/partial").mkdir(parents=True)
         succeed(["tar", "--numeric-owner", "-cf", new, "-C", folder, "."], "the base cannot be kept")

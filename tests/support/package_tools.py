@@ -13,17 +13,31 @@ from packages.crates import of_kit
 
 TOP = Path(__file__).resolve().parents[2]
 DIST = TOP / "dist"
-BINARIES = DIST / "x86_64-linux"
+BINARIES = DIST / "x86_64-linux"  # of this machine
 PACKAGES = DIST / "packages"
 FIX = "run scripts/release --packages and commit dist/"
 # What packages are made of, beside the binaries.
-PARTS = ("CHANGELOG.md", "LICENSE-APACHE", "LICENSE-MIT", "archive", "bindings", "crates.txt", "docs", "examples", "packaging", "scripts")
+PARTS = ("CHANGELOG.md", "LICENSE-APACHE", "LICENSE-MIT", "archive", "bindings", "crates.txt", "docs", "examples", "packaging", "scripts", "web")
 VERSION = re.search(r"^version: (.*)$", (BINARIES / "MANIFEST").read_text(encoding="ascii"), re.M)[1]
 CHANGELOG = (TOP / "CHANGELOG.md").read_text(encoding="utf-8")
 DATED = re.search(rf"^## {re.escape(VERSION)} - (.*)$", CHANGELOG, re.M)
 DATE = datetime.fromisoformat(f"{DATED[1] if DATED else '1970-01-01'}T00:00:00+00:00")
-READ = tomllib.loads((TOP / "tests" / "data" / "packages.toml").read_text().replace("@VERSION@", VERSION))
+
+
+def expected_for(target):
+    """Returns what is expected of the packages for a target."""
+    text = (TOP / "tests" / "data" / "packages.toml").read_text(encoding="utf-8")
+    places = {"VERSION": VERSION, "TARGET": target, **tomllib.loads(text)["targets"][target]}
+    return tomllib.loads(re.sub("@([A-Z_]+)@", lambda it: places[it[1]], text))
+
+
+NATIVE = "x86_64-linux"
+READ = expected_for(NATIVE)
+TARGETS = {target: expected_for(target) for target in READ["targets"]}
 DEBIAN, WHEELS = READ["debian"], READ["wheels"]
+# Each package for Debian and each wheel, for each target, by the name of its file.
+EVERY_DEBIAN = {f"{name}_{VERSION}-1_{it['architecture']}.deb": (name, it) for target in TARGETS.values() for name, it in target["debian"].items()}
+EVERY_WHEEL = {name: (target, wheel) for target, it in TARGETS.items() for name, wheel in it["wheels"].items()}
 LIBRARIES, MODULES = "usr/lib/x86_64-linux-gnu", "usr/lib/python3/dist-packages"
 LONG_AGO = 1_000_000_000  # seconds, in 2001
 NO_TOOL = 69  # the status of scripts/package if a tool is missing
@@ -40,7 +54,8 @@ def why_failed(done):
 
 def copy_of_repository(folder):
     """Copies what packages are made of, with dates of long ago."""
-    shutil.copytree(BINARIES, folder / "dist" / "x86_64-linux")
+    for target in (*TARGETS, "wasm32"):
+        shutil.copytree(DIST / target, folder / "dist" / target)
     for part in PARTS:
         if (TOP / part).is_dir():
             shutil.copytree(TOP / part, folder / part, ignore=shutil.ignore_patterns("target", "__pycache__"))
@@ -53,7 +68,7 @@ def copy_of_repository(folder):
 
 def package(top, to, released=None, **how):
     """Makes packages as scripts/release does; `how` is for `ended`."""
-    return ended([sys.executable, top / "scripts" / "package", released or top / "dist" / "x86_64-linux", to], **how)
+    return ended([sys.executable, top / "scripts" / "package", released or top / "dist", to], **how)
 
 
 def crates_of_kit():

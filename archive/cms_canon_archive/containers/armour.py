@@ -48,6 +48,12 @@ def _blocks_of(octets: bytes, budget: Budget) -> Iterator[Block]:
             return
 
 
+def blocks_of(octets: bytes, label: bytes) -> List[bytes]:
+    """Returns what is in the blocks of PEM with this label, but for those that are damaged."""
+    decoded = (_decoded(it.body) for it in _blocks_of(octets, Budget(len(octets))) if it.label == label)
+    return [it for it in decoded if it is not None]
+
+
 def _without_headers(body: bytes) -> bytes:
     """Returns what is in a block after its headers, which end at an empty line (RFC 1421), if it has any."""
     end = _EMPTY_LINE.search(body, len(body) - len(body.lstrip()))

@@ -75,7 +75,8 @@ class _Damaged(Exception):
     """A mail that cannot be taken apart."""
 
 
-class _Part(NamedTuple):
+@dataclass(frozen=True)
+class _Part:
     """A part: what its headers say of it, what readers may take otherwise, and its body."""
 
     headers: Message
@@ -84,9 +85,19 @@ class _Part(NamedTuple):
     notes: Tuple[str, ...]
     body: Span
 
-    @property
+    @cached_property
     def coding(self) -> str:
         return str(self.headers.get("Content-Transfer-Encoding") or "7bit").strip().lower()
+
+    @cached_property
+    def note_of_coding(self) -> str:
+        """What readers differ on in its encoding."""
+        if self.coding == "base64" and not _ALPHABET.match(self.body.view):
+            return "readers differ on characters that are not of base64"
+        if self.coding == "quoted-printable" and _ODD_QUOTED.search(self.body.view):
+            return "readers differ on characters of quoted-printable"
+        is_known = self.coding in (*_AS_IT_IS, "base64", "quoted-printable")
+        return "" if is_known else "readers differ on Content-Transfer-Encoding"
 
 
 @dataclass(frozen=True)
@@ -224,16 +235,6 @@ def _most_decoded(part: _Part) -> int:
     return 3 * part.body.length // 4 if part.coding == "base64" else part.body.length
 
 
-def _of_coding(part: _Part) -> str:
-    """Returns what readers differ on in the encoding of a message."""
-    if part.coding == "base64" and not _ALPHABET.match(part.body.view):
-        return "readers differ on characters that are not of base64"
-    if part.coding == "quoted-printable" and _ODD_QUOTED.search(part.body.view):
-        return "readers differ on characters of quoted-printable"
-    is_known = part.coding in (*_AS_IT_IS, "base64", "quoted-printable")
-    return "" if is_known else "readers differ on Content-Transfer-Encoding"
-
-
 def _of_delimiters(part: _Part, boundary: bytes) -> Iterator[str]:
     """Gives what readers differ on in a multipart."""
     if part.coding not in _AS_IT_IS:
@@ -323,7 +324,7 @@ class Mail:
         around = around.within(part)
         if part.kind in _CMS_TYPES:
             message = _decoded(part)
-            yield Found(where or "body", f"mail {part.kind}", Class.MESSAGE, len(message), message, note=around.note(_of_coding(part)))
+            yield Found(where or "body", f"mail {part.kind}", Class.MESSAGE, len(message), message, note=around.note(part.note_of_coding))
         elif part.kind == "message/rfc822":
             yield from self._in_forwarded(f"{where}/mail" if where else "mail", part, depth, replace(around, has_others=False))
         elif part.kind == "message/partial":
@@ -349,7 +350,7 @@ class Mail:
             for place in self._search(in_memory(_filename(part) or "", octets, self._source.budget)):
                 if place.what not in (Class.TEXT, Class.NO_CANDIDATE):
                     notes = around.notes if place.what is Class.MESSAGE else ()
-                    yield (place.with_content(None) if place.wants else place).noted(*notes, _of_coding(part)).within(where or "body")
+                    yield (place.with_content(None) if place.wants else place).noted(*notes, part.note_of_coding).within(where or "body")
 
     def _in_parts(self, where: str, part: _Part, depth: int, around: _Around) -> Iterator[Found]:
         if not part.boundary:
@@ -387,11 +388,11 @@ class Mail:
 def _signing(where: str, part: _Part, own: str, signed: Span, around: _Around) -> Found:
     """Returns what signs a part: with CRLF at the end of each line, or as it is if that is what was signed."""
     message, canonical = _decoded(part), _CanonicalLines(signed)
-    bound, note = State.PARTLY if around.has_others else State.FITS, around.note(_of_coding(part))
+    bound, note = State.PARTLY if around.has_others else State.FITS, around.note(part.note_of_coding)
     found = Found(where, f"mail {part.kind}", Class.MESSAGE, len(message), message, Content(own, signed.length, canonical, bound, note), is_detached=True)
     if canonical.is_same or _fits(found):
         return found
-    as_it_is = replace(found.content, pieces=Pieces(signed.view), note=around.note(_of_coding(part), _WITH_LF))
+    as_it_is = replace(found.content, pieces=Pieces(signed.view), note=around.note(part.note_of_coding, _WITH_LF))
     return found._replace(content=as_it_is) if _fits(found._replace(content=as_it_is)) else found
 
 

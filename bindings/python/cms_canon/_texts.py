@@ -21,6 +21,27 @@ FINDINGS = (
     "verifier says unknown",
     "token does not fit the status",
 )
+MEANINGS = (  # what each finding means
+    "The version of the message is not the one that its other fields require.",
+    "The version of a signer is not 1 with issuer and serial number, or not 3 with a key identifier.",
+    "A signer has no signed attributes: content that is not of the type data needs them.",
+    "There is not exactly one attribute content-type, with one value.",
+    "The attribute content-type is not the type of the content.",
+    "There is not exactly one attribute message-digest, or its value is not one OCTET STRING.",
+    "The content is not what was signed: its digest is another one.",
+    "A digest algorithm is none of SHA-1 and SHA-2.",
+    "The content is detached.",
+    "The digest algorithm of a signer is not in the list of the message.",
+    "The message, or what a response holds, is not a time-stamp token.",
+    "A token does not have exactly one signer.",
+    "The content of a token is not a TSTInfo in DER, so that it says nothing.",
+    "The imprint is that of other data.",
+    "The signer of a token does not say which certificate is its own.",
+    "The message has certificates, but not the one that the signer of the token names.",
+    "A signature is wrong. Only the library reports this, with a verifier of the caller.",
+    "Whether a signature is right is not known.",
+    "The status of a response grants a token and there is none, or it grants none and there is one.",
+)
 REFUSALS = {  # name, what it means, and what to do
     1: (
         "Truncated",

@@ -1,0 +1,173 @@
+"""The messages in one file, judged now and without a store: as a person asks who has a file, and perhaps the document that it signs."""
+
+from __future__ import annotations
+
+import os
+import shutil
+import sys
+import tempfile
+from contextlib import contextmanager, suppress
+from dataclasses import replace
+from enum import IntEnum
+from pathlib import Path
+from typing import Callable, Iterable, Iterator, List, NamedTuple, Optional, Sequence
+
+from .containers.armour import blocks_of
+from .containers.files import beside
+from .containers.found import Class, Found, Octets, State
+from .containers.names import READERS_DIFFER
+from .faults import Complaint
+from .judging import MOST_LISTED, Facts
+from .reading import found_in_entry, judged_or_not
+from .walking import entry_of
+
+STANDARD_INPUT = "-"
+MOST_OF_CERTIFICATES = 16 << 20  # octets of a file of certificates
+_OF_NO_MESSAGE = (Class.CONTAINER, Class.EMPTY, Class.TEXT, Class.NO_CANDIDATE)
+
+Progress = Callable[[int], object]  # takes how many octets were read since the last call
+
+
+class Outcome(IntEnum):
+    """What came of a message, as the status that a command ends with: the worst of all is that of the file."""
+
+    FITS = 0
+    NOT_KNOWN = 3
+    DIFFERS = 1
+
+
+_BY_WEIGHT = (Outcome.FITS, Outcome.NOT_KNOWN, Outcome.DIFFERS)
+
+
+class Judged(NamedTuple):
+    """What is at one place in a file, and what is known of it."""
+
+    found: Found
+    facts: Facts
+
+    @property
+    def outcome(self) -> Outcome:
+        """Whether it fits its document: only if each digest was compared, those of time-stamps too, no reader takes the file otherwise, and each
+        signature that was to be verified is right."""
+        facts = self.facts
+        if State.DIFFERS in (facts.state, *(it.state for it in facts.times)) or facts.verdict == "wrong":
+            return Outcome.DIFFERS
+        is_known = facts.verdict != "unknown" and READERS_DIFFER not in facts.note and len(facts.times) < MOST_LISTED
+        is_known = is_known and all(it is State.FITS for it in (facts.state, *(it.state for it in facts.times)))
+        return Outcome.FITS if is_known else Outcome.NOT_KNOWN
+
+
+def worst(outcomes: Iterable[Outcome]) -> Outcome:
+    """Returns the worst of some outcomes; that nothing is known if there is none."""
+    return max(outcomes, key=_BY_WEIGHT.index, default=Outcome.NOT_KNOWN)
+
+
+@contextmanager
+def on_disk(path: str) -> Iterator[str]:
+    """Lends the path of a file; of the standard input that of a copy, since a file is read from several places."""
+    if path != STANDARD_INPUT:
+        yield path
+        return
+    with tempfile.NamedTemporaryFile(prefix="cms-canon-archive-") as copy:
+        try:
+            shutil.copyfileobj(sys.stdin.buffer, copy)
+            copy.flush()
+        except OSError as why:
+            raise Complaint(f"the standard input cannot be copied to {os.path.dirname(copy.name)}: {why.strerror}") from None
+        yield copy.name
+
+
+class _Watched:
+    """Octets whose number is reported as they are read."""
+
+    def __init__(self, pieces: Iterable[Octets], progress: Progress) -> None:
+        self._pieces = pieces
+        self._progress = progress
+
+    def __iter__(self) -> Iterator[Octets]:
+        for piece in self._pieces:
+            yield piece
+            self._progress(len(piece))
+
+
+def _with_document(found: Found, document: str, progress: Progress) -> Found:
+    """Returns a message with a file as what it signs. Raises `Complaint` if that is not there."""
+    content = beside(document)
+    if content is None:
+        raise Complaint(f"{document}: it is not there any more")
+    return found.with_content(replace(content, pieces=_Watched(content.pieces, progress)))
+
+
+def messages_in(path: str, document: Optional[str], progress: Progress) -> Iterator[Found]:
+    """Gives the messages in a file with what they sign, and what cannot be read or is damaged.
+
+    A document is for the one message that the file is. Raises `Complaint` if it is a file with messages in it.
+    """
+    for found in found_in_entry(entry_of(os.path.realpath(path))):
+        if document is not None and found.where:
+            raise Complaint("a document is compared with the one message that a file is, and this file has messages in it")
+        if found.what not in _OF_NO_MESSAGE or found.note:
+            yield found if document is None or found.what is not Class.MESSAGE else _with_document(found, document, progress)
+
+
+class Verification(NamedTuple):
+    """Whether signatures are verified, and by which certificates, in DER: by those in the message if there are none here."""
+
+    verifies: bool
+    certificates: Sequence[bytes]
+
+    def said(self, verdict: str) -> str:
+        """Returns a verdict with what it rests on."""
+        return f"{verdict}, by {'the certificates that were given' if self.certificates else 'the certificates in the message'}"
+
+
+def verification(verifies: bool, paths: Sequence[str]) -> Verification:
+    """Returns how signatures are verified, by the certificates in files and in the files of folders. Raises `Complaint` if a path has none."""
+    return Verification(verifies or bool(paths), [it for path in paths for it in _certificates_in(path)])
+
+
+def _certificates_in(path: str) -> List[bytes]:
+    files = sorted(Path(path).iterdir()) if os.path.isdir(path) else [Path(path)]
+    found = [it for file in files if file.is_file() for it in _certificates_of(_read(file))]
+    if not found:
+        raise Complaint(f"{path}: there is no certificate")
+    return found
+
+
+def _read(file: Path) -> bytes:
+    with file.open("rb") as opened:
+        octets = opened.read(MOST_OF_CERTIFICATES + 1)
+    if len(octets) > MOST_OF_CERTIFICATES:
+        raise Complaint(f"{file}: it has more than {MOST_OF_CERTIFICATES:,} octets")
+    return octets
+
+
+def _certificates_of(octets: bytes) -> Iterator[bytes]:
+    """Gives the certificates in PEM, or the one that these octets are."""
+    from cms_canon import verifier
+
+    for it in blocks_of(octets, b"CERTIFICATE") or [octets]:
+        with suppress(ValueError):
+            verifier._certificate(it)
+            yield it
+
+
+def judged_in(path: str, document: Optional[str], how: Verification, progress: Progress) -> Iterator[Judged]:
+    """Judges the messages in a file."""
+    for found in messages_in(path, document, progress):
+        yield Judged(found, judged_or_not(found, how.verifies, how.certificates))
+
+
+def lines_of(judged: Judged, how: Verification) -> Iterator[str]:
+    """Gives what is said of a message to a person: first whether it fits."""
+    facts = judged.facts
+    if facts.what is not Class.MESSAGE:
+        yield f"refused E{facts.reason} {facts.name} at {facts.at}" if facts.reason is not None else facts.what.value
+    else:
+        where = f": {facts.content}" if facts.content else ""
+        yield f"{facts.state.value if facts.state else 'not known'}{where}"
+    if facts.verdict:
+        yield f"signatures: {how.said(facts.verdict)}"
+    yield from filter(None, facts.findings.split("; "))
+    yield from (f"time-stamp {it.number}: {it.state.value}" for it in facts.times if it.number)
+    yield from filter(None, [facts.note])

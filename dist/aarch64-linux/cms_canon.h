@@ -1,0 +1,445 @@
+/*
+ * cms-canon: the one DER encoding of a CMS signed message (RFC 5652 SignedData), or of a request, a response or a token of
+ * time-stamping (RFC 3161); its listing; the rules of the standards that it breaks; whether two messages are the same; where each
+ * of its fields is; and the octets that its signatures cover.
+ *
+ *     struct cms_canon_outcome outcome;
+ *     cms_canon_convert(input, input_length, CMS_CANON_LIMIT, output, output_room, &outcome);
+ *     if (outcome.status == CMS_CANON_DONE)
+ *         fwrite(output, 1, outcome.octets, stdout);
+ *     else if (outcome.status == CMS_CANON_REFUSED)
+ *         fprintf(stderr, "refused E%u %s at %llu\n", outcome.reason, outcome.name, (unsigned long long)outcome.at);
+ *
+ * A `reason` above 100, which only cms_canon_cover, cms_canon_part, cms_canon_tst_info_fields and cms_canon_check_digests give, has no
+ * `at`. The line of the command is then "refused: %s", with `name`.
+ *
+ * Each call works on the memory that it is handed alone. It keeps nothing and has no global state, so any number of threads
+ * may call at once, with outputs and outcomes of their own. It takes working memory by malloc and frees it before it returns:
+ * no memory that it allocates is handed out, and none that the caller allocated is freed.
+ *
+ * A call may be made from a thread that has a stack of CMS_CANON_STACK octets, however deep the message is nested.
+ *
+ * As nothing is kept, each call reads the message from its beginning, and takes time in proportion to its length, whatever it
+ * writes. cms_canon_fields says with one reading where all fields of all signers are; a verifier that asks for the cover of each
+ * signer in turn takes time in proportion to the square of their number.
+ *
+ * No pointer may be NULL, even with a length of 0. `output`, `findings`, `fields`, `asked`, `outcome`, `many` and `extent` must not overlap
+ * one another or an input. A call must not be made from a signal handler, or from the forked child of a process with several threads.
+ */
+#ifndef CMS_CANON_H
+#define CMS_CANON_H
+
+#include <stdbool.h>
+#include <stddef.h>
+#include <stdint.h>
+
+/* Marks a call that a later release does not have. Define it as empty to have no warning. */
+#ifndef CMS_CANON_DEPRECATED
+#ifdef __GNUC__
+#define CMS_CANON_DEPRECATED __attribute__((deprecated))
+#else
+#define CMS_CANON_DEPRECATED
+#endif
+#endif
+
+#ifdef __cplusplus
+extern "C" {
+#endif
+
+/* The limit of the command, in octets: 256 MiB. A limit may be at most 2^40; a larger one counts as 2^40. */
+#define CMS_CANON_LIMIT UINT64_C(268435456)
+
+/* The octets of stack that suffice for a thread whose own functions take few: 64 KiB, of which a call takes about 48. */
+#define CMS_CANON_STACK 65536
+
+/* The values of `status`. All but the last are those of the command. */
+enum cms_canon_status {
+    CMS_CANON_DONE = 0,           /* the first `octets` octets of the output were written, and no others; of a comparison: the
+                                     messages are the same */
+    CMS_CANON_DIFFERENT = 1,      /* of a comparison alone: the messages are not the same */
+    CMS_CANON_REFUSED = 3,        /* `reason`, `at` and `name` say why; nothing was written, except by cms_canon_convert_many */
+    CMS_CANON_OUT_OF_MEMORY = 5,  /* malloc failed; nothing was written */
+    CMS_CANON_ROOM_TOO_SMALL = 6  /* `octets` says how much room is needed; nothing was written: call again with more */
+};
+
+/* The values of `reason`: 1 to 19 stand for E1 to E19 (docs/FORMATS.md), and these say why there is no cover, part or TSTInfo, or
+ * why digests do not suffice. */
+enum cms_canon_reason {
+    CMS_CANON_NO_SIGNED_DATA = 101, /* the message is a request, or a response without a token */
+    CMS_CANON_NO_SIGNER = 102,      /* the path is empty, or leads to no signer or countersignature */
+    CMS_CANON_NO_CONTENT = 103,     /* the signer has no signed attributes, and there is no content */
+    CMS_CANON_NO_PART = 104,        /* the signer does not have this part, or the message this certificate */
+    CMS_CANON_NO_TST_INFO = 105,    /* the octets are not a TSTInfo in DER */
+    CMS_CANON_NO_DIGEST = 106,      /* a digest that the message asks for is not given */
+    CMS_CANON_NEEDS_CONTENT = 107   /* the content is needed itself, and not only by its digests */
+};
+
+/* What became of a call, which sets every field. */
+struct cms_canon_outcome {
+    uint32_t status; /* enum cms_canon_status */
+    uint32_t reason; /* why the message is refused, or 0 */
+    uint64_t at;     /* how many octets of the message were taken when it was refused by one of E1 to E19, or 0 */
+    uint64_t octets; /* how many octets, findings or rows were written, or would be (CMS_CANON_ROOM_TOO_SMALL), or another number
+                        that the call returns; if one of two messages is refused, which: 1 or 2; else 0 */
+    char name[24];   /* the name of the reason, as "Overrun" or "no such signer", with zeros after it: a string, or "" */
+};
+
+/*
+ * Converts: reads the `input_length` octets at `input`, which are one message in BER or DER with nothing after it, and writes
+ * its DER to `output`, which has room for `output_room` octets. Neither may have more than `limit` octets.
+ *
+ * The DER is seldom longer than the input, and then by a few octets for each element of 64 KiB or more. Room for
+ * `input_length + 64` octets almost always suffices.
+ */
+void cms_canon_convert(const uint8_t *input, size_t input_length, uint64_t limit,
+                       uint8_t *output, size_t output_room, struct cms_canon_outcome *outcome);
+
+/* What became of messages one after another. */
+struct cms_canon_many {
+    struct cms_canon_outcome outcome;
+    uint64_t messages; /* how many messages were accepted, and so also the number of the one that is refused, from 0 */
+    uint64_t read;     /* how many octets of the input these have, and so also where the one that is refused begins */
+};
+
+/*
+ * Converts messages one after another: reads the `input_length` octets at `input`, which are messages in BER or DER, one right
+ * after the other, and writes the DER of each to `output`, in the same order. The input may be empty. No message may have more
+ * than `limit` octets, and neither may its DER; the input may. If `limit` is 0, any input is refused.
+ *
+ * CMS_CANON_DONE: all of the input is messages. Their DER is at the beginning of the output, `octets` of the outcome is its
+ * length, `messages` says how many there are, and `read` is `input_length`.
+ *
+ * CMS_CANON_REFUSED: a message is refused. `reason`, `at` and `name` say why, and `at` counts from the first octet of that
+ * message. The messages before it are converted all the same: their DER is at the beginning of the output, `octets` is its length,
+ * `messages` says how many they are, and `read` how many octets of the input they have. If the reason is 1 (E1 Truncated), the
+ * input ends inside a message: a caller that then gets more octets calls again with the octets from `read` on, and those.
+ *
+ * CMS_CANON_ROOM_TOO_SMALL: nothing was written. `octets` says how much room is needed; `messages` and `read` are as above, even if
+ * the next message is refused, which this outcome does not say. CMS_CANON_OUT_OF_MEMORY: nothing was written, and `messages` and
+ * `read` are 0.
+ *
+ * Each message is read as cms_canon_convert reads one, except that E18 does not come: what follows a message is the next one. Room
+ * for `input_length + 64` octets almost always suffices.
+ */
+void cms_canon_convert_many(const uint8_t *input, size_t input_length, uint64_t limit,
+                            uint8_t *output, size_t output_room, struct cms_canon_many *many);
+
+/* The values of `reach`. */
+enum cms_canon_reach {
+    CMS_CANON_MORE = 0,          /* octets are missing: they are a proper prefix of an element, and fewer than `limit` */
+    CMS_CANON_WHOLE = 1,         /* the element is whole: its length is `end`, at most `limit` */
+    CMS_CANON_NOTHING = 2,       /* after `end` octets no element begins that ends within `limit`: cms_canon_convert says why */
+    CMS_CANON_REACH_UNKNOWN = 3  /* malloc failed: call again with this extent */
+};
+
+/* How far an element reaches (X.690, section 8.1). */
+struct cms_canon_extent {
+    uint64_t end;     /* how many octets of the input were passed: headers of indefinite length, and whole elements after them */
+    uint64_t unended; /* how many elements of indefinite length have not ended there */
+    uint32_t reach;   /* enum cms_canon_reach */
+};
+
+/*
+ * Finds how far the element reaches that the `input_length` octets at `input` begin with: so a caller whose octets come in pieces
+ * learns when a whole message is there, and has it converted once. In the first call all of `extent` is 0. In a later one it is as the
+ * call before left it, and the input is that of the call before and the octets that have come since: the call goes on at the header
+ * where the one before stopped. All calls for a message take time in proportion to its headers and to the number of calls. If
+ * `extent` was changed, or the call before said CMS_CANON_WHOLE or CMS_CANON_NOTHING, the extent says nothing.
+ *
+ *     struct cms_canon_extent extent = {0};
+ *     do
+ *         length += read_more(input + length);
+ *     while (cms_canon_extent(input, length, CMS_CANON_LIMIT, &extent), extent.reach == CMS_CANON_MORE);
+ *
+ * Only headers are read, and not what is in elements of definite length: whether the element is a message, cms_canon_convert says.
+ */
+void cms_canon_extent(const uint8_t *input, size_t input_length, uint64_t limit, struct cms_canon_extent *extent);
+
+/*
+ * Writes the octets that a signature covers (RFC 5652, sections 5.4 and 11.4), which a verifier digests: that of a signer of the
+ * message at `input`, or of a countersignature. The `path_length` numbers at `path` say which. Each counts from 0, in the order
+ * read: path[0] names the signer, and each later number a countersignature of the one before, through all its countersignature
+ * attributes. So the path 0 is the first signer, and 0, 1 the second countersignature of that signer. An empty path, or a number
+ * out of range, is refused as `no such signer`. Of a response of time-stamping, the signers are those of its token.
+ *
+ * If the signer has signed attributes, the signature covers these and not the content. A verifier must also compare the digest of
+ * the content with the attribute message-digest; cms_canon_cover does not do it, and cms_canon_check does. A signer without signed
+ * attributes covers the content. The cover of a countersignature without signed attributes is the value octets of the signature
+ * that it signs.
+ *
+ * If the content of the message is detached, it is handed in as the `content_length` octets at `content`, with `has_content`
+ * true. If the signer has signed attributes, or the message has its content itself, `content` is not used. If `has_content` is
+ * false, `content` may point to anything and `content_length` be 0.
+ *
+ * The message and its DER may have at most `limit` octets each. The content is not limited.
+ *
+ * Room for `input_length + content_length` octets always suffices.
+ */
+void cms_canon_cover(const uint8_t *input, size_t input_length, const uint64_t *path, size_t path_length,
+                     const uint8_t *content, size_t content_length, bool has_content, uint64_t limit,
+                     uint8_t *output, size_t output_room, struct cms_canon_outcome *outcome);
+
+/*
+ * Lists the message at `input`, as the command `show` does: a line for each of its parts, in UTF-8, each ended by a line feed.
+ * No zero follows the text.
+ *
+ * A listing seldom has more than 4,000 octets. There is no room that always suffices: the outcome says how much is needed.
+ */
+void cms_canon_show(const uint8_t *input, size_t input_length, uint64_t limit,
+                    uint8_t *output, size_t output_room, struct cms_canon_outcome *outcome);
+
+/* A rule of the standards that a message breaks. */
+struct cms_canon_finding {
+    uint64_t signer;     /* the number of the signer that breaks it, from 0 in the order read; 0 if `has_signer` is 0 */
+    uint32_t code;       /* 1 to 19 for F1 to F19 (docs/FORMATS.md) */
+    uint32_t has_signer; /* 1 for a rule for a signer, 0 for one for the message */
+};
+
+/*
+ * Writes the rules that the message at `input` breaks to the array `findings`, which has room for `findings_room` of them.
+ * `octets` of the outcome says how many findings there are, and not octets. Those for the message come first, and then those
+ * for each signer in the order read; both are ordered by their codes. 0 findings is the answer for a message that breaks no
+ * rule, and has no signature that covers anything.
+ *
+ * No signature is verified: there is a finding of code 18 for each signer whose signature covers anything. It stands for the
+ * verdict of a verifier that cannot tell. A caller that verifies drops it if the signature is right, and puts one of code 17 in
+ * its place if the signature is wrong: cms_canon_fields says where what it needs is, and what the signature covers.
+ *
+ * If the content of the message is detached, it is handed in as the `content_length` octets at `content`, with `has_content`
+ * true. If the message has its content itself, `content` is not used. The data that were time-stamped are the `data_length`
+ * octets at `data`, with `has_data` true: the message then has to be a time-stamp token for them, a response with such a token,
+ * or a request for one. If `has_content` or `has_data` is false, its pointer may point to anything and its length be 0.
+ *
+ * The message and its DER may have at most `limit` octets each. Content and data are not limited; if they do not fit into memory,
+ * cms_canon_check_digests takes digests of them.
+ */
+void cms_canon_check(const uint8_t *input, size_t input_length, const uint8_t *content, size_t content_length, bool has_content,
+                     const uint8_t *data, size_t data_length, bool has_data, uint64_t limit,
+                     struct cms_canon_finding *findings, size_t findings_room, struct cms_canon_outcome *outcome);
+
+/* The digest algorithms that are known here (FIPS 180-4): the values of `algorithm` below. */
+enum cms_canon_digest_algorithm {
+    CMS_CANON_SHA1 = 1,       /* 20 octets */
+    CMS_CANON_SHA224 = 2,     /* 28 */
+    CMS_CANON_SHA256 = 3,     /* 32 */
+    CMS_CANON_SHA384 = 4,     /* 48 */
+    CMS_CANON_SHA512 = 5,     /* 64 */
+    CMS_CANON_SHA512_224 = 6, /* 28 */
+    CMS_CANON_SHA512_256 = 7  /* 32 */
+};
+
+/* What a digest is of: the values of `of` below. */
+enum cms_canon_digested {
+    CMS_CANON_OF_CONTENT = 1, /* the content of the message, which is detached */
+    CMS_CANON_OF_DATA = 2     /* the data that were time-stamped, or are to be */
+};
+
+/* A digest that a message asks for. */
+struct cms_canon_digest_asked {
+    uint32_t of;        /* enum cms_canon_digested */
+    uint32_t algorithm; /* enum cms_canon_digest_algorithm; 0 if the content is needed itself */
+};
+
+/* A digest. */
+struct cms_canon_digest {
+    uint32_t algorithm; /* enum cms_canon_digest_algorithm */
+    uint8_t octets[64]; /* as many octets as the algorithm has; those after them are not looked at */
+};
+
+/*
+ * Writes which digests of detached content, and of the data that were time-stamped, the message at `input` asks for, to the array
+ * `asked`, which has room for `asked_room` of them. `octets` of the outcome says how many there are, and not octets. They are those of
+ * the content, if that is detached, by the algorithms of the signers that have signed attributes and do not break F6, ordered by number
+ * and each once; and then that of the data that were time-stamped, or are to be, by the algorithm of the imprint. An algorithm that is
+ * not known here is not among them.
+ *
+ * The content is needed itself if the message is a time-stamp token, or a response with one, and its content is detached: that is the
+ * TSTInfo. The only row is then {CMS_CANON_OF_CONTENT, 0}, and cms_canon_check has to be called, with the content and the data as octets.
+ * If no content is given, cms_canon_check_digests reports F9.
+ *
+ * The message and its DER may have at most `limit` octets each. Room for 8 always suffices.
+ */
+void cms_canon_digests_asked(const uint8_t *input, size_t input_length, uint64_t limit,
+                             struct cms_canon_digest_asked *asked, size_t asked_room, struct cms_canon_outcome *outcome);
+
+/*
+ * Writes the rules that the message at `input` breaks to the array `findings`, as cms_canon_check does, by digests of the content and
+ * of the data in place of their octets. So no document has to be in memory: the caller asks cms_canon_digests_asked which digests are
+ * needed, reads the document in pieces, and digests them by a library of its own. The findings are those of cms_canon_check
+ * with any octets that have these digests: a digest that is not of the document is believed.
+ *
+ * If the content of the message is detached, the `content_count` digests at `content` are of it, with `has_content` true. If the message
+ * has its content itself, they are not used. The `data_count` digests at `data` are of the data that were time-stamped, with `has_data`
+ * true, and the message then has to be a time-stamp token for them, a response with such a token, or a request for one. If `has_content`
+ * or `has_data` is false, its pointer may point to anything and its count be 0. More digests may be given than are asked for, in any
+ * order. The first one by an algorithm counts, and one by an algorithm that is not known here is not used.
+ *
+ * If the content is needed itself and `has_content` is true, the call is refused as `needs the content` (CMS_CANON_NEEDS_CONTENT);
+ * else, if a digest that is asked for is not given, as `digest not given` (CMS_CANON_NO_DIGEST).
+ *
+ * The message and its DER may have at most `limit` octets each.
+ */
+void cms_canon_check_digests(const uint8_t *input, size_t input_length, const struct cms_canon_digest *content, size_t content_count,
+                             bool has_content, const struct cms_canon_digest *data, size_t data_count, bool has_data, uint64_t limit,
+                             struct cms_canon_finding *findings, size_t findings_room, struct cms_canon_outcome *outcome);
+
+/*
+ * Says whether the message at `first` and the one at `second` are the same: whether they have the same DER. Each is one message
+ * in BER or DER with nothing after it. The status is CMS_CANON_DONE if they are the same, and CMS_CANON_DIFFERENT if they are
+ * not.
+ *
+ * If a message is refused, `octets` of the outcome says which: 1 or 2. If the first is refused, the second is not read. The
+ * messages and their DER may have at most `limit` octets each.
+ */
+void cms_canon_same(const uint8_t *first, size_t first_length, const uint8_t *second, size_t second_length, uint64_t limit,
+                    struct cms_canon_outcome *outcome);
+
+/* The parts of a signer that cms_canon_part writes (RFC 5652, section 5.3), and a certificate of the message. */
+enum cms_canon_part_of_signer {
+    CMS_CANON_SIGNATURE = 1,              /* the octets of the signature */
+    CMS_CANON_SIGNATURE_ALGORITHM = 2,    /* the contents octets of the OBJECT IDENTIFIER in signatureAlgorithm */
+    CMS_CANON_SIGNATURE_PARAMETERS = 3,   /* its parameters, one element; refused if they are absent: NULL is `05 00` */
+    CMS_CANON_DIGEST_ALGORITHM = 4,       /* the contents octets of the OBJECT IDENTIFIER in digestAlgorithm */
+    CMS_CANON_DIGEST_PARAMETERS = 5,      /* its parameters, likewise */
+    CMS_CANON_ISSUER = 6,                 /* the issuer of the signer's certificate: a Name, one element */
+    CMS_CANON_SERIAL_NUMBER = 7,          /* the contents octets of the INTEGER that is its serial number */
+    CMS_CANON_SUBJECT_KEY_IDENTIFIER = 8, /* the octets of its key identifier: a signer has either this or 6 and 7 */
+    CMS_CANON_CERTIFICATE = 9             /* of the message: the certificate with the number path[0], one element */
+};
+
+/*
+ * Deprecated: a later release does not have it. cms_canon_fields says where all of these are, with one reading.
+ *
+ * Writes the octets of a part of the signer or countersignature at `path`, which is that of cms_canon_cover, as they were
+ * received. What the signer does not have is refused as `no such part` (CMS_CANON_NO_PART), and so is a number that is no part.
+ *
+ * A certificate is no part of a signer: the path is then one number, which counts the certificates of the message from 0 in the
+ * order read, and a number out of range is `no such part`. An element that begins with 30 is a Certificate (RFC 5280); A0 to A3
+ * are the other kinds of RFC 5652, section 10.2.2. Which certificate is the signer's is for the caller to find, by parts 6 and
+ * 7 or 8.
+ *
+ * The message and its DER may have at most `limit` octets each.
+ *
+ * Room for `input_length` octets always suffices.
+ */
+CMS_CANON_DEPRECATED
+void cms_canon_part(const uint8_t *input, size_t input_length, const uint64_t *path, size_t path_length, uint32_t part,
+                    uint64_t limit, uint8_t *output, size_t output_room, struct cms_canon_outcome *outcome);
+
+/* A field of a message, or a segment of one. */
+struct cms_canon_row {
+    uint64_t start;  /* where in the input its octets begin, from 0 */
+    uint64_t length; /* how many there are: start + length is at most input_length */
+    uint32_t kind;   /* enum cms_canon_kind */
+    uint32_t level;  /* how many fields it is in */
+};
+
+/*
+ * The values of `kind`, with the field of the standard and its ASN.1: those from 0x10 on are of SignedData (RFC 5652, section 5.1),
+ * from 0x20 on of SignerInfo (section 5.3), from 0x30 on of TimeStampReq, from 0x40 on of TimeStampResp (RFC 3161, sections 2.4.1
+ * and 2.4.2), and from 0x50 on of TSTInfo (section 2.4.2).
+ *
+ * What the octets of a row are:
+ *   contents  those of an INTEGER, an OBJECT IDENTIFIER, a BIT STRING or a GeneralizedTime after its header
+ *   element   one element, with its header
+ *   segments  the octets of an OCTET STRING: a row for each of the pieces in which it was received, or one that is empty
+ *   none      start and length are 0. The fields of a SEQUENCE or SET are the rows after it, up to the first whose level is not higher
+ *             than its own; a BOOLEAN has a row if it is TRUE
+ */
+enum cms_canon_kind {
+    CMS_CANON_KIND_PARAMETERS = 0x01,              /* element: parameters of the AlgorithmIdentifier one level above */
+    CMS_CANON_KIND_ATTRIBUTE = 0x02,               /* contents: attrType. The attrValues are one level below */
+    CMS_CANON_KIND_VALUE = 0x03,                   /* element: AttributeValue */
+    CMS_CANON_KIND_HASH_ALGORITHM = 0x04,          /* contents: hashAlgorithm of a MessageImprint */
+    CMS_CANON_KIND_HASHED_MESSAGE = 0x05,          /* segments: hashedMessage of a MessageImprint */
+
+    CMS_CANON_KIND_SIGNED_DATA = 0x10,             /* none: SignedData ::= SEQUENCE */
+    CMS_CANON_KIND_VERSION = 0x11,                 /* contents: version CMSVersion, an INTEGER */
+    CMS_CANON_KIND_DIGEST_ALGORITHM = 0x12,        /* contents: a member of digestAlgorithms SET OF AlgorithmIdentifier */
+    CMS_CANON_KIND_CONTENT_TYPE = 0x13,            /* contents: eContentType OBJECT IDENTIFIER */
+    CMS_CANON_KIND_CONTENT = 0x14,                 /* segments: eContent [0] EXPLICIT OCTET STRING OPTIONAL */
+    CMS_CANON_KIND_CERTIFICATES = 0x15,            /* none: certificates [0] IMPLICIT CertificateSet OPTIONAL */
+    CMS_CANON_KIND_CERTIFICATE = 0x16,             /* element: CertificateChoices. One that begins with 30 is a Certificate (RFC 5280) */
+    CMS_CANON_KIND_CRLS = 0x17,                    /* none: crls [1] IMPLICIT RevocationInfoChoices OPTIONAL */
+    CMS_CANON_KIND_CRL = 0x18,                     /* element: RevocationInfoChoice. One that begins with 30 is a CRL (RFC 5280) */
+
+    CMS_CANON_KIND_SIGNER = 0x20,                  /* none: a member of signerInfos SET OF SignerInfo */
+    CMS_CANON_KIND_COUNTERSIGNATURE = 0x21,        /* none: Countersignature ::= SignerInfo, one level below its ATTRIBUTE */
+    CMS_CANON_KIND_SIGNER_VERSION = 0x22,          /* contents: version CMSVersion, an INTEGER */
+    CMS_CANON_KIND_ISSUER = 0x23,                  /* element: issuer Name, of IssuerAndSerialNumber */
+    CMS_CANON_KIND_SERIAL_NUMBER = 0x24,           /* contents: serialNumber INTEGER, of IssuerAndSerialNumber */
+    CMS_CANON_KIND_SUBJECT_KEY_IDENTIFIER = 0x25,  /* segments: subjectKeyIdentifier [0] IMPLICIT OCTET STRING */
+    CMS_CANON_KIND_SIGNER_DIGEST_ALGORITHM = 0x26, /* contents: digestAlgorithm AlgorithmIdentifier */
+    CMS_CANON_KIND_SIGNED_ATTRIBUTES = 0x27,       /* element: signedAttrs [0] IMPLICIT SET OF Attribute OPTIONAL */
+    CMS_CANON_KIND_SIGNATURE_ALGORITHM = 0x28,     /* contents: signatureAlgorithm AlgorithmIdentifier */
+    CMS_CANON_KIND_SIGNATURE = 0x29,               /* segments: signature OCTET STRING */
+    CMS_CANON_KIND_UNSIGNED_ATTRIBUTES = 0x2a,     /* none: unsignedAttrs [1] IMPLICIT SET OF Attribute OPTIONAL */
+
+    CMS_CANON_KIND_REQUEST = 0x30,                 /* none: TimeStampReq ::= SEQUENCE */
+    CMS_CANON_KIND_REQUEST_VERSION = 0x31,         /* contents: version INTEGER */
+    CMS_CANON_KIND_REQUEST_POLICY = 0x32,          /* contents: reqPolicy OBJECT IDENTIFIER OPTIONAL */
+    CMS_CANON_KIND_REQUEST_NONCE = 0x33,           /* contents: nonce INTEGER OPTIONAL */
+    CMS_CANON_KIND_CERT_REQ = 0x34,                /* none: certReq BOOLEAN DEFAULT FALSE, if it is TRUE */
+    CMS_CANON_KIND_REQUEST_EXTENSIONS = 0x35,      /* element: extensions [0] IMPLICIT Extensions OPTIONAL */
+
+    CMS_CANON_KIND_RESPONSE = 0x40,                /* none: TimeStampResp ::= SEQUENCE. The SignedData of its token is one level below */
+    CMS_CANON_KIND_STATUS = 0x41,                  /* contents: status INTEGER, of PKIStatusInfo */
+    CMS_CANON_KIND_STATUS_STRING = 0x42,           /* element: statusString PKIFreeText OPTIONAL, a SEQUENCE */
+    CMS_CANON_KIND_FAIL_INFO = 0x43,               /* contents: failInfo BIT STRING OPTIONAL, as received */
+
+    CMS_CANON_KIND_TST_INFO = 0x50,                /* none: TSTInfo ::= SEQUENCE */
+    CMS_CANON_KIND_TST_VERSION = 0x51,             /* contents: version INTEGER */
+    CMS_CANON_KIND_TST_POLICY = 0x52,              /* contents: policy OBJECT IDENTIFIER */
+    CMS_CANON_KIND_TST_SERIAL_NUMBER = 0x53,       /* contents: serialNumber INTEGER */
+    CMS_CANON_KIND_GEN_TIME = 0x54,                /* contents: genTime GeneralizedTime */
+    CMS_CANON_KIND_ACCURACY = 0x55,                /* none: accuracy Accuracy OPTIONAL, a SEQUENCE */
+    CMS_CANON_KIND_SECONDS = 0x56,                 /* contents: seconds INTEGER OPTIONAL, one level below */
+    CMS_CANON_KIND_MILLIS = 0x57,                  /* contents: millis [0] INTEGER (1..999) OPTIONAL */
+    CMS_CANON_KIND_MICROS = 0x58,                  /* contents: micros [1] INTEGER (1..999) OPTIONAL */
+    CMS_CANON_KIND_ORDERING = 0x59,                /* none: ordering BOOLEAN DEFAULT FALSE, if it is TRUE */
+    CMS_CANON_KIND_TST_NONCE = 0x5a,               /* contents: nonce INTEGER OPTIONAL */
+    CMS_CANON_KIND_TSA = 0x5b,                     /* element: tsa [0] GeneralName OPTIONAL */
+    CMS_CANON_KIND_TST_EXTENSIONS = 0x5c           /* element: extensions [1] IMPLICIT Extensions OPTIONAL */
+};
+
+/*
+ * Writes where each field of the message is in `input`: a row for each, to the array `fields`, which has room for
+ * `fields_room` of them. `octets` of the outcome says how many rows there are, and not octets. They come in the order of the
+ * definitions, which is that of the octets, the members of a SET in the order read; the fields of a field come right after it, with a
+ * level that is one more. A field that is absent has no row. So all of a message comes from one reading; for example, its signers and
+ * their countersignatures, each with the name or the key identifier of its certificate:
+ *
+ *     for (const struct cms_canon_row *row = fields; row < fields + outcome.octets; row++) {
+ *         if (row->kind == CMS_CANON_KIND_SIGNER || row->kind == CMS_CANON_KIND_COUNTERSIGNATURE)
+ *             printf(row->kind == CMS_CANON_KIND_SIGNER ? "signer\n" : "countersignature\n");
+ *         if (row->kind == CMS_CANON_KIND_ISSUER || row->kind == CMS_CANON_KIND_SUBJECT_KEY_IDENTIFIER)
+ *             print_octets(input + row->start, row->length);
+ *     }
+ *
+ * What a signature covers, from the fields of its signer or countersignature, whose level is one more than that of the row SIGNER or
+ * COUNTERSIGNATURE: if one of them is SIGNED_ATTRIBUTES, the octet 31 and the octets of that row but the first; else of a signer the
+ * octets of the rows CONTENT, or the content that is detached, and of a countersignature those of the rows SIGNATURE of the signer
+ * or countersignature whose unsigned attributes it is in. cms_canon_cover writes the same.
+ *
+ * The message and its DER may have at most `limit` octets each.
+ *
+ * Room for `input_length / 2` rows always suffices, as each stands for an element of its own; a message that is mostly content or
+ * certificates has few. A call takes working memory for all rows, of 24 octets each.
+ */
+void cms_canon_fields(const uint8_t *input, size_t input_length, uint64_t limit,
+                      struct cms_canon_row *fields, size_t fields_room, struct cms_canon_outcome *outcome);
+
+/*
+ * Writes where each field of a TSTInfo is, the content of a time-stamp token, as cms_canon_fields does. The
+ * `content_length` octets at `content` are those of the rows CONTENT of the token, one after another, or the content that is
+ * detached. If they are not a TSTInfo in DER, the call is refused as `not a TSTInfo in DER` (CMS_CANON_NO_TST_INFO). The content is
+ * not limited.
+ */
+void cms_canon_tst_info_fields(const uint8_t *content, size_t content_length,
+                               struct cms_canon_row *fields, size_t fields_room, struct cms_canon_outcome *outcome);
+
+#ifdef __cplusplus
+}
+#endif
+
+#endif
