@@ -21,7 +21,7 @@ if TYPE_CHECKING:
     from .digests import Group
     from .exporting import Copied
     from .filters import Filters
-    from .one_file import Verification
+    from .judging import Verification
     from .queries import Totals
     from .reading import Row
     from .store import Store
@@ -374,12 +374,13 @@ def rows_command(paths: Tuple[str, ...], verifies: bool) -> None:
     """
     import json
 
+    from .judging import BY_MESSAGE, NOT_VERIFIED
     from .reading import parts_of
     from .walking import entries_of, is_there, tops_of
     from .writing import write
 
     count = 0
-    for part in parts_of(entries_of(tops_of(filter(is_there, paths))), verifies):
+    for part in parts_of(entries_of(tops_of(filter(is_there, paths))), BY_MESSAGE if verifies else NOT_VERIFIED):
         write(part.rows, "json", ())
         count += len(part.rows)
     click.echo(json.dumps({"end": count}))
@@ -488,7 +489,7 @@ def _check_file(file: str, document: Optional[str], how: Verification, form: Opt
     with _given(file, document) as (path, other, progress):
         messages = _each(judged_in(path, other, how, progress), lambda it: outcomes.append(it.outcome))
         if form is not None:
-            rows = ({"path": file, **row_in_file(read_of(entry_of(path), it.found, it.facts, how.verifies))} for it in messages)
+            rows = ({"path": file, **row_in_file(read_of(entry_of(path), it.found, it.facts, how))} for it in messages)
             write(_with_name(rows), form, ("state", "findings", "verdict", "note", "file"))
         for it in messages:
             first, *others = lines_of(it, how)
@@ -550,7 +551,7 @@ def inspect_command(file: str, document: Optional[str], verifies: bool, given: T
     with _given(file, document) as (path, other, progress):
         if form == "json":
             for it in judged_in(path, other, how, progress):
-                write([{"path": file, **row_in_file(read_of(entry_of(path), it.found, it.facts, how.verifies))}], form, ())
+                write([{"path": file, **row_in_file(read_of(entry_of(path), it.found, it.facts, how))}], form, ())
                 count += it.facts.digest is not None
         else:
             for found in messages_in(path, other, progress):

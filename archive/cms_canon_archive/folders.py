@@ -14,9 +14,10 @@ import os
 from typing import AbstractSet, Dict, Iterable, List, NamedTuple, Optional, Sequence, Set, Tuple
 
 from .containers.packed import why_of
-from .judging import judged
+from .judging import Verification, judged
 from .reading import Entry, Read, read_of, reads_of, unread
 from .sessions import Held, Known, New, Outcome
+from .settings import NO_SETTINGS, Settings
 from .spool import Spool
 from .tables import MOST_CHUNKS
 from .texts import chunk_of, is_cut, name_of_text, text_of
@@ -81,8 +82,8 @@ def texts_of_folder(folder: str) -> Tuple[str, Optional[str]]:
 # ---- folders
 
 
-def listed(path: str, chunk: int, chunks: int) -> Listing:
-    """Lists a folder. Symbolic links, and what is neither file nor folder, are left out."""
+def listed(path: str, chunk: int, chunks: int, settings: Settings) -> Listing:
+    """Lists a folder. Symbolic links, what is neither file nor folder, and what the settings say are left out."""
     files: Dict[str, os.DirEntry[str]] = {}
     folders: List[str] = []
     names: Optional[Set[str]] = set() if chunks == 1 else None
@@ -92,12 +93,14 @@ def listed(path: str, chunk: int, chunks: int) -> Listing:
             name = entry.name
             if names is not None:
                 names.add(name)
+            if settings.excluded and settings.leaves_out(entry.path):
+                continue
             if entry.is_file(follow_symlinks=False):
                 count += 1
                 text = text_of(name)
                 if chunks == 1 or chunk_of(text, chunks) == chunk:
                     files[text] = entry
-            elif chunk == 0 and entry.is_dir(follow_symlinks=False):
+            elif chunk == 0 and entry.is_dir(follow_symlinks=False) and not settings.is_on_another(path, entry.path):
                 folders.append(name)
     return Listing(dict(sorted(files.items())), sorted(folders), count, names)
 
@@ -108,9 +111,19 @@ def chunks_for(count: int, chunks: int) -> int:
     return wanted if wanted > 4 * chunks or chunks == 1 or chunks > MOST_CHUNKS else chunks
 
 
+def _top_of(part: Held) -> str:
+    """Returns the path that was named, and that a part lies in or is."""
+    return name_of_text((part.whole or part.path)[: part.top])
+
+
+def is_left_out(path: str, part: Held, settings: Settings) -> bool:
+    """Whether the settings leave a part out."""
+    return settings.leaves_out_below(path, _top_of(part))
+
+
 def _is_where_it_was(path: str, part: Held) -> bool:
     """Whether no symbolic link is between what was named and a path below it."""
-    top = name_of_text((part.whole or part.path)[: part.top])
+    top = _top_of(part)
     return path == top or is_reached(path.rstrip("/"), top.rstrip("/") or "/")
 
 
@@ -129,8 +142,16 @@ def is_gone(path: str, part: Held) -> bool:
 class Reader:
     """Reads parts for a worker."""
 
-    def __init__(self, own: AbstractSet[str], known: Dict[int, Dict[str, Known]], with_parts: Dict[str, Set[str]], rows: Spool) -> None:
-        """`own` are the paths of the files of the store itself, which are left out."""
+    def __init__(
+        self,
+        own: AbstractSet[str],
+        known: Dict[int, Dict[str, Known]],
+        with_parts: Dict[str, Set[str]],
+        rows: Spool,
+        settings: Dict[Optional[int], Settings],
+    ) -> None:
+        """`own` are the paths of the files of the store itself, which are left out. `settings` are those of the parts, by their numbers."""
+        self._settings = settings
         self._own = own
         self._known = known
         self._with_parts = with_parts
@@ -147,18 +168,25 @@ class Reader:
         from .short_files import groups, reads_together
 
         for some in groups(files):
-            for (file, entry), read in zip(some, reads_together([entry for _, entry in some], outcome.part.verifies)):
+            for (file, entry), read in zip(some, reads_together([entry for _, entry in some], self._verification(outcome.part))):
                 if read is None:
                     self.read_file(outcome, file, entry)
                 else:
                     self.put(outcome, file, entry, (read,))
+
+    def _verification(self, part: Held) -> Verification:
+        return self._settings_of(part).verification(part.verifies)
+
+    def _settings_of(self, part: Held) -> Settings:
+        """Returns the settings of a part; none if they are not there any more, as a worker that lies may have said."""
+        return self._settings.get(part.settings, NO_SETTINGS)
 
     def begin(self, outcome: Outcome) -> List[Tuple[str, Entry]]:
         """Returns the files that are to be read of a part, each as it is named in a store and as it is; the rest is in the outcome."""
         part = outcome.part
         path = path_of(part)
         try:
-            if path is None or path in self._own or is_gone(path, part):
+            if path is None or path in self._own or is_gone(path, part) or is_left_out(path, part, self._settings_of(part)):
                 self._drop_all(outcome)
                 return []
         except OSError as error:
@@ -180,9 +208,9 @@ class Reader:
         known = self._known.get(part.id, {})
         if not known or part.anew:
             return list(entries)
-        changed = []
+        changed, how = [], self._verification(part)
         for file, entry in entries:
-            if _is_same(known.get(file), entry, part.verifies):
+            if _is_same(known.get(file), entry, how):
                 outcome.unchanged += 1
                 outcome.octets += entry.size
             else:
@@ -193,20 +221,21 @@ class Reader:
         """Lists a folder, and notes the parts in it and what is gone. What are parts of their own is not among the files that it returns."""
         part = outcome.part
         stored = self._known.get(part.id, {})
-        listing = listed(path, part.chunk, part.chunks)
+        settings = self._settings_of(part)
+        listing = listed(path, part.chunk, part.chunks, settings)
         if part.chunk == 0 and (chunks := chunks_for(listing.total, part.chunks)) != part.chunks:
             outcome.chunks = chunks
-            listing = listed(path, 0, chunks)
+            listing = listed(path, 0, chunks, settings)
         others = range(1, outcome.chunks) if part.chunk == 0 else ()  # which are added again, should a worker have lost one
-        outcome.new += [New(part.path, "", it, outcome.chunks, part.whole, part.top, part.anew, part.verifies) for it in others]
+        outcome.new += [New(part.path, "", it, outcome.chunks, part.whole, part.top, part.anew, part.verifies, part.settings) for it in others]
         for name in listing.folders:
             inner, inner_whole = texts_of_folder(path + name)
-            outcome.new.append(New(inner, "", 0, 1, inner_whole, part.top, part.anew, part.verifies))
+            outcome.new.append(New(inner, "", 0, 1, inner_whole, part.top, part.anew, part.verifies, part.settings))
         own, files = self._with_parts.get(part.path, set()), []
         for text, file in listing.files.items():
             entry = entry_in(file, listing.names)
             if text in own or entry.size > LARGE:
-                outcome.new.append(New(part.path, text, 0, 1, part.whole, part.top, part.anew, part.verifies))
+                outcome.new.append(New(part.path, text, 0, 1, part.whole, part.top, part.anew, part.verifies, part.settings))
             elif not self._own or entry.path not in self._own:
                 files.append((text, entry))
         if stored:
@@ -227,7 +256,7 @@ class Reader:
 
     def read_file(self, outcome: Outcome, file: str, entry: Entry) -> None:
         """Reads a file."""
-        self.put(outcome, file, entry, reads_of(entry, outcome.part.verifies))
+        self.put(outcome, file, entry, reads_of(entry, self._verification(outcome.part)))
 
     def put(self, outcome: Outcome, file: str, entry: Entry, reads: Iterable[Read]) -> None:
         """Puts what was read of one file in place of what is stored of it, if anything is: a worker that lies may have left something."""
@@ -248,6 +277,8 @@ class Reader:
         self.put(outcome, file, entry, [read_of(entry, found, judged(found))])
 
 
-def _is_same(known: Optional[Known], entry: Entry, verifies: bool) -> bool:
+def _is_same(known: Optional[Known], entry: Entry, how: Verification) -> bool:
     """Whether what is stored of a file is what would be read of it."""
-    return known is not None and known[2:6] == entry[1:] and bool(known[6]) and (bool(known[7]) or not verifies)
+    if known is None or known[2:6] != entry[1:] or not known[6]:
+        return False
+    return not how.verifies or bool(known[7]) and (known[8] and bytes(known[8])) == how.digest

@@ -70,6 +70,7 @@ BEGIN
             AND right(path, {ending}) = '\\...' || encode(sha256(convert_to(rtrim(whole, '/'), 'UTF8')), 'hex') || '/') OR NOT EXISTS (
             SELECT FROM (SELECT parts.*, coalesce(whole, path) AS place FROM parts WHERE state = 1 AND name = '' AND holder IN (SELECT archive_held())) AS own
                 WHERE own.top = told.top AND own.anew = told.anew AND own.verifies = told.verifies
+                AND own.settings IS NOT DISTINCT FROM told.settings
                 AND (own.place = told.place AND own.path = told.path AND (told.name <> '' OR told.chunk > 0)
                 OR told.name = '' AND told.chunk = 0 AND starts_with(told.place, own.place)
                     AND substr(told.place, length(own.place) + 1) ~ '^[^/]+/$' AND substr(told.place, length(own.place) + 1) NOT IN ('./', '../'))

@@ -20,8 +20,11 @@ from .opening import WORKERS_ENDING, for_others
 from .options import Options
 from .processes import Processes
 from .reading import Part
+from .settings import NO_SETTINGS, Settings
+from .settings import put as put_settings
+from .history import BEGAN
 from .store import Store
-from .tables import IS_TO_DO, OF_PARTS, PARTS, insertion
+from .tables import IS_TO_DO, OF_PARTS, PARTS, Now, insertion
 from .texts import path_text_of, text_of
 from .versions import own_version
 from .watching import Counts, State, Watch, counts_in, state_of
@@ -46,21 +49,24 @@ Show = Callable[[State, Counts], None]  # shows where an index is, and what was 
 # ---- what is to be done
 
 
-def put_in(store: Store, tops: Sequence[str], anew: bool = False, verifies: bool = False) -> int:
+def put_in(store: Store, tops: Sequence[str], anew: bool = False, verifies: bool = False, settings: Settings = NO_SETTINGS) -> int:
     """Has the parts of these folders and files done, and done again if they are done or being done. Returns how many are to be done, at most 10,000."""
-    how = {"anew": anew, "verifies": verifies}
+
+    with store.engine.connect() as connection:
+        began = int(connection.execute(sa.select(Now())).scalar_one())
 
     def put() -> int:
         with store.engine.begin() as connection:
             if store.is_sqlite:
                 connection.exec_driver_sql("BEGIN IMMEDIATE")
+            how = {"anew": anew, "verifies": verifies, "settings": put_settings(connection, settings)}
             for top in tops:
                 _put_top(connection, top, os.path.isdir(top), how)
             some = sa.select(PARTS.c.id).where(IS_TO_DO).limit(_MOST_COUNTED).subquery()
             return int(connection.execute(sa.select(sa.func.count()).select_from(some)).scalar_one())
 
     to_do = store.tried(put)
-    store.note_paths(map(_noted, tops), own_version().noted())
+    store.note_paths(map(_noted, tops), {**own_version().noted(), BEGAN: str(began)})
     return to_do
 
 
@@ -69,7 +75,7 @@ def _noted(top: str) -> str:
     return texts_of_folder(top)[0].rstrip("/") or "/" if os.path.isdir(top) else path_text_of(top)
 
 
-def _put_top(connection: sa.engine.Connection, top: str, is_folder: bool, how: Dict[str, bool]) -> None:
+def _put_top(connection: sa.engine.Connection, top: str, is_folder: bool, how: Dict[str, Any]) -> None:
     folder, whole = texts_of_folder(top if is_folder else os.path.dirname(top))
     name = "" if is_folder else text_of(os.path.basename(top))
     part = {"path": folder, "name": name, "whole": whole, "top": len(whole or folder)}
@@ -116,6 +122,7 @@ class Plan(NamedTuple):
     scheduler: Optional[str]
     anew: bool
     verifies: bool
+    settings: Settings = NO_SETTINGS
 
 
 def index(store: Store, plan: Plan, line_of: Callable[[Exception], Optional[str]], show: Show) -> Done:
@@ -127,7 +134,7 @@ def index(store: Store, plan: Plan, line_of: Callable[[Exception], Optional[str]
     cluster = _cluster_of(plan.scheduler) if plan.scheduler else None
     with store.engine.connect() as connection:
         before = counts_in(connection)
-    to_do = put_in(store, plan.tops, plan.anew, plan.verifies)
+    to_do = put_in(store, plan.tops, plan.anew, plan.verifies, plan.settings)
     store.close()  # or processes begun now would have its connections
     if cluster is not None:
         _by_cluster(watch, cluster, plan, partial(show_since, show, before))

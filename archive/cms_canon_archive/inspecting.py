@@ -11,8 +11,7 @@ from cms_canon._elements import elements_of
 from cms_canon._texts import MEANINGS, REFUSALS
 
 from .containers.found import Class, Found
-from .judging import OF_TIMES, Facts, Signer, Time, name_of_oid
-from .one_file import Verification
+from .judging import OF_TIMES, Facts, Signer, Time, Verification, name_of_oid
 from .reading import judged_or_not
 from .texts import shown, size_of
 
@@ -58,7 +57,7 @@ class _Inspected:
         self.how = how
         self.der = der
         self.message = cms_canon.read(der)
-        self.facts = judged_or_not(found._replace(octets=der, facts=None), how.verifies, how.certificates)  # or findings would number signers in the order read
+        self.facts = judged_or_not(found._replace(octets=der, facts=None), how)  # or findings would number signers in the order read
         self._signers: Dict[str, Signer] = {it.number: it for it in self.facts.signed_by}
         self._times: Dict[str, Time] = {it.number: it for it in self.facts.times}
 
@@ -171,4 +170,4 @@ def lines_of(found: Found, how: Verification) -> Iterator[Line]:
         der = cms_canon.convert(found.octets) if found.what is Class.MESSAGE and found.octets is not None else None
     except cms_canon.Refused:
         der = None
-    return _of_no_message(judged_or_not(found, how.verifies)) if der is None else _Inspected(found, der, how).lines()
+    return _of_no_message(judged_or_not(found, how)) if der is None else _Inspected(found, der, how).lines()

@@ -75,6 +75,10 @@ class Signer(NamedTuple):
     """Those of the key."""
     certificate: Optional[str] = None
     """The algorithm by which the certificate is signed."""
+    verified_by: Optional[str] = None
+    """The SHA-256 of the certificate by which the signature is right, in hexadecimal digits; None if it is not, or was not verified."""
+    message_digest: Optional[str] = None
+    """The digest of what is signed, in hexadecimal digits; None if there is none that can be read."""
 
 
 class Time(NamedTuple):
@@ -88,6 +92,14 @@ class Time(NamedTuple):
     digest: Optional[str]
     state: State
     """Whether its imprint fits what it covers."""
+    subject: Optional[str] = None
+    """This and what follows are of who signed the token, by its certificate in the token."""
+    not_after: Optional[str] = None
+    signature: Optional[str] = None
+    key: Optional[str] = None
+    bits: Optional[int] = None
+    imprint: Optional[str] = None
+    """The digest of what is time-stamped, in hexadecimal digits."""
 
 
 class Facts(NamedTuple):
@@ -117,6 +129,29 @@ class Facts(NamedTuple):
     times: Sequence[Time] = ()
 
 
+class Verification(NamedTuple):
+    """Whether signatures are verified, and by which certificates, in DER: by those in the message if there are none here."""
+
+    verifies: bool = False
+    certificates: Sequence[bytes] = ()
+    digest: Optional[bytes] = None
+    """That of the certificates; None if there are none."""
+
+    def said(self, verdict: str) -> str:
+        """Returns a verdict with what it rests on."""
+        return f"{verdict}, by {'the certificates that were given' if self.certificates else 'the certificates in the message'}"
+
+
+NOT_VERIFIED = Verification()
+BY_MESSAGE = Verification(True)
+
+
+def verification_by(certificates: Sequence[bytes]) -> Verification:
+    """Returns that signatures are verified by these certificates and no others. Their digest is the SHA-256 of that of each, in ascending order."""
+    each = sorted({hashlib.sha256(it).digest() for it in certificates})
+    return Verification(True, certificates, hashlib.sha256(b"".join(each)).digest())
+
+
 # ---- certificates
 
 
@@ -126,6 +161,7 @@ class _Certificate(NamedTuple):
     issuer: bytes
     serial: int
     key_identifier: Optional[bytes]
+    sha256: Optional[str] = None
     issuer_text: Optional[str] = None
     subject: Optional[str] = None
     not_before: Optional[str] = None
@@ -179,7 +215,7 @@ def _read_certificate(octets: bytes) -> Optional[_Certificate]:
         known = verifier._certificate(octets)
     except ValueError:
         return None
-    found = _Certificate(known.issuer, known.serial_number, _key_identifier(known))
+    found = _Certificate(known.issuer, known.serial_number, _key_identifier(known), hashlib.sha256(octets).hexdigest())
     try:
         with warnings.catch_warnings():
             warnings.simplefilter("ignore")  # of what a certificate should not have
@@ -243,9 +279,9 @@ def _signing_time(signer: _facts.Signer) -> Optional[str]:
     return f"{digits[:4]}-{digits[4:6]}-{digits[6:8]}T{digits[8:10]}:{digits[10:12]}:{digits[12:14]}Z" if len(digits) == 14 else None
 
 
-def _signer(signer: _facts.Signer, certificates: List[_Certificate]) -> Signer:
+def _signer(signer: _facts.Signer, certificates: List[_Certificate], verified: _Verified) -> Signer:
     serial, key_identifier = signer.serial_number, signer.key_identifier
-    known = _certificate_named(certificates, signer.issuer, serial, key_identifier)
+    known = _certificate_of(signer, certificates)
     return Signer(
         signer.number,
         _name_of(signer.digest_algorithm),
@@ -260,7 +296,13 @@ def _signer(signer: _facts.Signer, certificates: List[_Certificate]) -> Signer:
         known.key,
         known.bits,
         known.signature,
+        known.sha256 if signer.number in verified.by_certificate else None,
+        None if (digest := _message_digest(signer)) is None else digest.hex(),
     )
+
+
+def _certificate_of(signer: _facts.Signer, certificates: List[_Certificate]) -> _Certificate:
+    return _certificate_named(certificates, signer.issuer, signer.serial_number, signer.key_identifier)
 
 
 def _hex(number: int) -> str:
@@ -314,33 +356,40 @@ def _token_facts(facts: _facts.Facts) -> Optional[_facts.TokenFacts]:
         return None
 
 
-def _time(number: str, facts: _facts.Facts, state: State) -> Time:
+def _time(number: str, facts: _facts.Facts, state: State, given: Sequence[_Certificate]) -> Time:
     token = _token_facts(facts)
     if token is None:
         return Time(number, None, None, None, None, State.NO_DIGEST if state in (*GOOD, State.COVERS_MORE) else state)
-    return Time(number, time_text(token.time), token.policy, _hex(token.serial_number), _name_of(token.hash_algorithm), state)
+    time = Time(number, time_text(token.time), token.policy, _hex(token.serial_number), _name_of(token.hash_algorithm), state)
+    time = time._replace(imprint=token.imprint.hex())
+    if not facts.signers:
+        return time
+    signer = facts.signers[0]  # there is one (RFC 3161, section 2.4.2)
+    known = _certificate_of(signer, [*given, *_certificates_of(facts)])
+    signature = _name_of(signer.signature_algorithm)
+    return time._replace(subject=known.subject, not_after=known.not_after, signature=signature, key=known.key, bits=known.bits)
 
 
-def _attribute_times(signer: _facts.Signer) -> Iterator[Time]:
+def _attribute_times(signer: _facts.Signer, given: Sequence[_Certificate]) -> Iterator[Time]:
     """Gives the times of the tokens in the unsigned attributes of a signer. The imprint of one for its signature is compared."""
     count = 0
     for oid, values in signer.unsigned:
         if oid not in OF_TIMES:
             continue
         for value in values:
-            yield _attribute_time(f"{signer.number}/{count}", value, signer.signature if oid in _OVER_SIGNATURE else None)
+            yield _attribute_time(f"{signer.number}/{count}", value, signer.signature if oid in _OVER_SIGNATURE else None, given)
             count += 1
 
 
-def _attribute_time(number: str, token: bytes, covered: Optional[bytes]) -> Time:
+def _attribute_time(number: str, token: bytes, covered: Optional[bytes], given: Sequence[_Certificate]) -> Time:
     try:
         facts = facts_of(token, checks=False)
         codes = {it.code for it in cms_canon.check(token, stamped=covered if covered is not None else b"")}
     except cms_canon.Refused:
         return Time(number, None, None, None, None, State.NO_DIGEST)
     if covered is None:
-        return _time(number, facts, _state_of_token(facts, codes - {_F14}, State.COVERS_MORE))
-    return _time(number, facts, _state_of_token(facts, codes, State.FITS))
+        return _time(number, facts, _state_of_token(facts, codes - {_F14}, State.COVERS_MORE), given)
+    return _time(number, facts, _state_of_token(facts, codes, State.FITS), given)
 
 
 # ---- findings
@@ -408,15 +457,18 @@ class _Verified(NamedTuple):
     """The numbers of the signers that sign the content itself, without signed attributes, and are right."""
     wrong: FrozenSet[int] = frozenset()
     """Those of them that are wrong."""
+    by_certificate: FrozenSet[str] = frozenset()
+    """The numbers of all signers whose signature is right by the certificate that they name."""
 
 
-_NOT_VERIFIED = _Verified()
+_NONE_VERIFIED = _Verified()
 
 
-def _verified(octets: bytes, facts: _facts.Facts, content: Optional[Content], certificates: Sequence[bytes]) -> _Verified:
+def _verified(facts: _facts.Facts, content: Optional[Content], certificates: Sequence[bytes]) -> _Verified:
     """Verifies the signatures, by these certificates and no others if there are any.
 
-    If the content itself is signed and is not there, or too long to be handed over, nothing is known.
+    If the content itself is signed and is not there, or too long to be handed over, nothing is known. Signers are those of the DER, since
+    findings number them in the order in which they are read.
     """
     from cms_canon import verifier
 
@@ -426,10 +478,12 @@ def _verified(octets: bytes, facts: _facts.Facts, content: Optional[Content], ce
         if content is None or content.bound is State.UNREADABLE or content.length > cms_canon.LIMIT:
             return _Verified(_VERDICTS[_F18])
         given = b"".join(content.pieces)
-    found = [it for it in cms_canon.check(octets, content=given, verifier=verifier.by_certificates(certificates or None)) if it.code in _VERDICTS]
+    found = [it for it in cms_canon.check(facts.der, content=given, verifier=verifier.by_certificates(certificates or None)) if it.code in _VERDICTS]
     not_right = {it.signer for it in found}
     wrong = frozenset(it.signer for it in found if it.code == _F17 and it.signer in own)
-    return _Verified(_VERDICTS[min(it.code for it in found)] if found else "right", frozenset(it for it in own if it not in not_right), wrong)
+    right = frozenset(it.number for it in facts.signers if "." not in it.number and int(it.number) not in not_right)
+    verdict = _VERDICTS[min(it.code for it in found)] if found else "right"
+    return _Verified(verdict, frozenset(it for it in own if it not in not_right), wrong, right)
 
 
 def _signers_of_content(facts: _facts.Facts) -> FrozenSet[int]:
@@ -532,23 +586,24 @@ def _names(names: Sequence[str]) -> str:
     return names[0] if len(names) == 1 else ", ".join(sorted(set(names)))
 
 
-def _times_of(facts: _facts.Facts, is_token: bool, state: State) -> List[Time]:
+def _times_of(facts: _facts.Facts, is_token: bool, state: State, given: Sequence[_Certificate]) -> List[Time]:
     """Returns the times of the message itself, if it is a token, and of the tokens in unsigned attributes."""
-    own = [_time("", facts, state)] if is_token and facts.signers else []
+    own = [_time("", facts, state, given)] if is_token and facts.signers else []
     stamped = [it for it in facts.signers[:MOST_LISTED] if it.unsigned]
-    return own + list(islice((time for it in stamped for time in _attribute_times(it)), MOST_LISTED)) if stamped else own
+    return own + list(islice((time for it in stamped for time in _attribute_times(it, given)), MOST_LISTED)) if stamped else own
 
 
-def _judged_message(found: Found, octets: bytes, verifies: bool, given: Sequence[bytes]) -> Facts:
+def _judged_message(found: Found, octets: bytes, how: Verification) -> Facts:
     facts = found.facts or facts_of(octets, checks=found.content is None)
     is_token = _is_token(facts)
     kind = _kind_of(facts, is_token)
     findings = _findings(octets, facts, found.content, is_token)
-    verified = _verified(octets, facts, found.content, given) if verifies and facts.signers else _NOT_VERIFIED
+    verified = _verified(facts, found.content, how.certificates) if how.verifies and facts.signers else _NONE_VERIFIED
     state, of_countersigners = _with_countersigned(_state_of(found, facts, kind, findings.codes, verified), facts)
-    certificates = [*filter(None, map(_certificate, given)), *_certificates_of(facts)] if facts.signers else []
-    signers = [_signer(it, certificates) for it in facts.signers[:MOST_LISTED]]
-    times = _times_of(facts, is_token, state)
+    known = [*filter(None, map(_certificate, how.certificates))]
+    certificates = [*known, *_certificates_of(facts)] if facts.signers else []
+    signers = [_signer(it, certificates, verified) for it in facts.signers[:MOST_LISTED]]
+    times = _times_of(facts, is_token, state, known)
     of_times = next((f"token {it.number}: {it.state.value}" for it in times if it.number and it.state is State.DIFFERS), "")
     return Facts(
         what=Class.MESSAGE,
@@ -570,18 +625,15 @@ def _judged_message(found: Found, octets: bytes, verifies: bool, given: Sequence
     )
 
 
-def judged(found: Found, verifies: bool = False, certificates: Sequence[bytes] = ()) -> Facts:
-    """Returns what is known of what was found: of what may be a message, whether it is one, or why it is refused.
-
-    Signatures are verified by the certificates in the message, or by these, in DER, and no others if there are any.
-    """
+def judged(found: Found, how: Verification = NOT_VERIFIED) -> Facts:
+    """Returns what is known of what was found: of what may be a message, whether it is one, or why it is refused."""
     if found.what is not Class.MESSAGE or found.octets is None:
         return Facts(found.what, note=found.note)
     try:
-        return _judged_message(found, found.octets, verifies, certificates)
+        return _judged_message(found, found.octets, how)
     except (OSError, Ended) as why:  # of a content that is read now
         where = found.content.where if found.content else ""
         unread = Content(where, 0, (), State.UNREADABLE, f"{where}: {why_of(why)}")
-        return judged(found.with_content(unread), verifies, certificates)
+        return judged(found.with_content(unread), how)
     except cms_canon.Refused as refused:
         return Facts(Class.REFUSED, note=_note_of(found), reason=refused.reason, name=refused.name, at=refused.at)

@@ -8,9 +8,9 @@ from typing import Any, Dict, Iterator, List
 
 import sqlalchemy as sa
 
-from . import guards
+from . import guards, history
 from .containers.found import Class
-from .tables import ABOUT, BY_DIGEST, LISTS, OF_PARTS, PLACES, SCHEMA, TABLES, Digest, PartState, columns_of, views
+from .tables import ABOUT, BY_DIGEST, LISTS, OF_PARTS, PARTS, PLACES, SCHEMA, TABLES, Digest, PartState, columns_of, views
 
 LOCK = 5652_3161  # the number of the lock under which the tables are made
 _CONTROL = re.compile("[\1-\x1f\x7f-\x9f]")
@@ -56,23 +56,30 @@ def migrate(connection: sa.engine.Connection) -> None:
         if connection.dialect.name == "postgresql":
             guards.put_up(connection, are_there=True)
         return
-    if before == _LAST:
+    if before in _RENEWED:
         _renew(connection)
         return
     if before:
         _put_aside(connection, before)
+    _make_tables(connection)
+    if before:
+        _take_over(connection)
+        connection.execute(sa.update(PLACES).values(stored=None))
+    _make_views(connection)
+    history.keep(connection)
+    if connection.dialect.name == "postgresql":
+        guards.put_up(connection)
+    connection.execute(sa.delete(ABOUT))
+    connection.execute(sa.insert(ABOUT), [{"name": "schema", "value": str(SCHEMA)}])
+
+
+def _make_tables(connection: sa.engine.Connection) -> None:
+    """Makes the tables that are not there."""
     for table in TABLES.sorted_tables:
         connection.execute(sa.schema.CreateTable(table, if_not_exists=True))
         for index in sorted(table.indexes, key=lambda it: str(it.name)):
             if index.name != "places_by_digest":  # which is made when the first rows are all there
                 _make_index(connection, index)
-    if before:
-        _take_over(connection)
-    _make_views(connection)
-    if connection.dialect.name == "postgresql":
-        guards.put_up(connection)
-    connection.execute(sa.delete(ABOUT))
-    connection.execute(sa.insert(ABOUT), [{"name": "schema", "value": str(SCHEMA)}])
 
 
 def _make_index(connection: sa.engine.Connection, index: sa.Index) -> None:
@@ -88,13 +95,15 @@ def _make_views(connection: sa.engine.Connection) -> None:
         connection.exec_driver_sql(f"CREATE VIEW {name} AS {str(text)}".replace("%", "%%" if connection.dialect.name == "postgresql" else "%"))
 
 
-# ---- the tables of the version before, which have the same names
+# ---- the tables of the versions before, which have the same names
 
-_LAST = 3
+_RENEWED = (3, 4)
 
 
 def _renew(connection: sa.engine.Connection) -> None:
-    """Brings the tables of places up to date: they may lack columns, and values that their checks know. Their rows, and all else, are kept."""
+    """Brings the tables up to date: they may lack columns, and values that their checks know. Their rows, and all else, are kept."""
+    if not _has_column(connection, PARTS.c.settings):
+        _add(connection, PARTS, PARTS.c.settings)
     for name in views():
         connection.exec_driver_sql(f"DROP VIEW IF EXISTS {name}")
     for table in OF_PARTS:
@@ -102,7 +111,10 @@ def _renew(connection: sa.engine.Connection) -> None:
             _alter(connection, table)
         else:
             _copy_to_new(connection, table)
+    _make_tables(connection)
+    connection.execute(sa.update(PLACES).values(stored=None))  # which nobody knows
     _make_views(connection)
+    history.keep(connection)
     if connection.dialect.name == "postgresql":
         guards.put_up(connection, are_there=True)
     connection.execute(sa.update(ABOUT).where(ABOUT.c.name == "schema").values(value=str(SCHEMA)))
@@ -110,13 +122,20 @@ def _renew(connection: sa.engine.Connection) -> None:
 
 def _alter(connection: sa.engine.Connection, table: sa.Table) -> None:
     """Adds the columns that a table lacks, and has it checked as it is now. The triggers of PostgreSQL and the rights stay with the table."""
-    there = {it["name"] for it in sa.inspect(connection).get_columns(table.name)}
-    for column in (it for it in table.columns if it.name not in there):
-        text = sa.schema.CreateColumn(column).compile(dialect=connection.dialect)
-        connection.exec_driver_sql(f"ALTER TABLE {table.name} ADD COLUMN {text}")
+    for column in (it for it in table.columns if not _has_column(connection, it)):
+        _add(connection, table, column)
     for check in sorted((it for it in table.constraints if isinstance(it, sa.CheckConstraint)), key=lambda it: str(it.name)):
         connection.exec_driver_sql(f"ALTER TABLE {table.name} DROP CONSTRAINT IF EXISTS {check.name}")
         connection.execute(sa.schema.AddConstraint(check))
+
+
+def _has_column(connection: sa.engine.Connection, column: sa.Column) -> bool:
+    return column.name in {it["name"] for it in sa.inspect(connection).get_columns(column.table.name)}
+
+
+def _add(connection: sa.engine.Connection, table: sa.Table, column: sa.Column) -> None:
+    text = sa.schema.CreateColumn(column).compile(dialect=connection.dialect)
+    connection.exec_driver_sql(f"ALTER TABLE {table.name} ADD COLUMN {text}")
 
 
 def _copy_to_new(connection: sa.engine.Connection, table: sa.Table) -> None:

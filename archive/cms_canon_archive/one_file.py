@@ -17,7 +17,7 @@ from .containers.files import beside
 from .containers.found import Class, Found, Octets, State
 from .containers.names import READERS_DIFFER
 from .faults import Complaint
-from .judging import MOST_LISTED, Facts
+from .judging import BY_MESSAGE, MOST_LISTED, NOT_VERIFIED, Facts, Verification, verification_by
 from .reading import found_in_entry, judged_or_not
 from .walking import entry_of
 
@@ -110,20 +110,11 @@ def messages_in(path: str, document: Optional[str], progress: Progress) -> Itera
             yield found if document is None or found.what is not Class.MESSAGE else _with_document(found, document, progress)
 
 
-class Verification(NamedTuple):
-    """Whether signatures are verified, and by which certificates, in DER: by those in the message if there are none here."""
-
-    verifies: bool
-    certificates: Sequence[bytes]
-
-    def said(self, verdict: str) -> str:
-        """Returns a verdict with what it rests on."""
-        return f"{verdict}, by {'the certificates that were given' if self.certificates else 'the certificates in the message'}"
-
-
 def verification(verifies: bool, paths: Sequence[str]) -> Verification:
     """Returns how signatures are verified, by the certificates in files and in the files of folders. Raises `Complaint` if a path has none."""
-    return Verification(verifies or bool(paths), [it for path in paths for it in _certificates_in(path)])
+    if paths:
+        return verification_by([it for path in paths for it in _certificates_in(path)])
+    return BY_MESSAGE if verifies else NOT_VERIFIED
 
 
 def _certificates_in(path: str) -> List[bytes]:
@@ -155,7 +146,7 @@ def _certificates_of(octets: bytes) -> Iterator[bytes]:
 def judged_in(path: str, document: Optional[str], how: Verification, progress: Progress) -> Iterator[Judged]:
     """Judges the messages in a file."""
     for found in messages_in(path, document, progress):
-        yield Judged(found, judged_or_not(found, how.verifies, how.certificates))
+        yield Judged(found, judged_or_not(found, how))
 
 
 def lines_of(judged: Judged, how: Verification) -> Iterator[str]:

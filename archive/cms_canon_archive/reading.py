@@ -15,17 +15,18 @@ import cms_canon
 
 from .containers import armour
 from .containers.armour import wanted_by
-from .containers.found import Class, Content, Found, Octets
+from .containers.found import Class, Content, Found, Octets, State
 from .containers.packed import ENDINGS, PACKINGS, name_inside, why_of
 from .containers.sources import DEEPEST, TooMuch
-from .judging import Facts, Signer, Time, judged
+from .judging import NOT_VERIFIED, Facts, Signer, Time, Verification, judged
 from .texts import LONGEST, cut, path_text_of, text_of
 
 Row = Dict[str, Any]  # of a store, or a line of `rows`
 Values = Tuple[Any, ...]
 
-READER = 5  # raised with each change of the command or the library by which a file would get other rows, and with no other
+READER = 6  # raised with each change of the command or the library by which a file would get other rows, and with no other
 MOST = (1 << 63) - 1  # the largest number that a store takes
+DIGESTS = ("digest", "sha256", "verified_by")  # the values of a place that are a SHA-256
 NO_PATH = "no path is named so"
 TOO_LONG = "its name is too long to be read back"
 SETTLED = 2_000_000_000  # nanoseconds: the clock of a file system may be as coarse
@@ -79,6 +80,8 @@ class Place(NamedTuple):
     is_verified: bool
     library: str
     reader: int
+    sha256: Optional[bytes]
+    verified_by: Optional[bytes]
 
 
 class Read(NamedTuple):
@@ -148,28 +151,28 @@ def metered(found: Found, content: Content, path: str, left: List[int]) -> Found
 # ---- rows
 
 
-def judged_or_not(found: Found, verifies: bool, certificates: Sequence[bytes] = ()) -> Facts:
-    """Returns what is known of what was found. If memory runs out, that ends this file alone."""
+def judged_or_not(found: Found, how: Verification = NOT_VERIFIED) -> Facts:
+    """Returns what is known of what was found. Being out of memory ends only this file."""
     try:
-        return judged(found, verifies, certificates)
+        return judged(found, how)
     except MemoryError:
         return Facts(what=Class.UNREADABLE, note="out of memory")
 
 
 def _of_signer(signer: Signer) -> Values:
     """Returns the values of a signer, and cuts those that are too long. Texts that come from certificates are as a store takes them."""
-    serial, key_identifier = signer.serial, signer.key_identifier
-    if len(signer.digest) + len(signer.signature) + len(serial or key_identifier or "") <= LONGEST // 4:
+    serial, key_identifier, message_digest = signer.serial, signer.key_identifier, signer.message_digest or ""
+    if len(signer.digest) + len(signer.signature) + len(serial or key_identifier or "") + len(message_digest) <= LONGEST // 2:
         return signer
-    signer = signer._replace(digest=cut(signer.digest), signature=cut(signer.signature))
+    signer = signer._replace(digest=cut(signer.digest), signature=cut(signer.signature), message_digest=cut(message_digest))
     return signer._replace(serial=serial and cut(serial), key_identifier=key_identifier and cut(key_identifier))
 
 
 def _of_time(time: Time) -> Values:
-    return tuple(cut(it) if type(it) is str else it for it in (*time[:-1], time.state.value))
+    return tuple(it.value if type(it) is State else cut(it) if type(it) is str else it for it in time)
 
 
-def read_of(entry: Entry, found: Found, facts: Facts, verifies: bool = False) -> Read:
+def read_of(entry: Entry, found: Found, facts: Facts, how: Verification = NOT_VERIFIED) -> Read:
     """Returns what is to be stored of what was found in a file. `facts` is what is known of it."""
     note = text_of(facts.note) if facts.note else ""
     latest = max(entry.changed, int(entry.beside.split(":")[1])) if entry.beside else entry.changed
@@ -199,10 +202,12 @@ def read_of(entry: Entry, found: Found, facts: Facts, verifies: bool = False) ->
         cut(facts.digests),
         cut(facts.signatures),
         facts.verdict,
-        time.time_ns() - latest > SETTLED,
-        verifies,
+        time.time_ns() - latest > SETTLED and (found.sha256 is not None or found.where != ""),
+        how.verifies,
         cms_canon.__version__,
         READER,
+        found.sha256,
+        how.digest,
     )
     return Read(place, [_of_signer(it) for it in facts.signed_by], [_of_time(it) for it in facts.times])
 
@@ -211,15 +216,15 @@ def row_in_file(read: Read) -> Row:
     """Returns the same by the names of columns, but for the path of the file."""
     place, signed_by, times = read
     row = place._asdict()
-    row["digest"] = None if place.digest is None else place.digest.hex()
+    row.update((it, None if row[it] is None else row[it].hex()) for it in DIGESTS)
     row["signed_by"] = [dict(zip(Signer._fields, it)) for it in signed_by]
     row["times"] = [dict(zip(Time._fields, it)) for it in times]
     return row
 
 
-def row_of(entry: Entry, found: Found, verifies: bool = False) -> Row:
+def row_of(entry: Entry, found: Found, how: Verification = NOT_VERIFIED) -> Row:
     """Returns the line of `rows` for what was found in a file."""
-    return {"path": path_text_of(entry.path), **row_in_file(read_of(entry, found, judged_or_not(found, verifies), verifies))}
+    return {"path": path_text_of(entry.path), **row_in_file(read_of(entry, found, judged_or_not(found, how), how))}
 
 
 def unread(entry: Entry, error: str) -> Found:
@@ -227,13 +232,13 @@ def unread(entry: Entry, error: str) -> Found:
     return Found("", "file", Class.UNREADABLE, entry.size, note=error)
 
 
-def found_in_entry(entry: Entry) -> Iterator[Found]:
-    """Gives what is found in a file, and last the file itself."""
+def found_in_entry(entry: Entry, digests: bool = False) -> Iterator[Found]:
+    """Gives what is found in a file, and last the file itself, with the SHA-256 of its octets if that is wanted."""
     from .containers.files import Unreadable, found_in_path
 
     left = [MOST_BESIDE]
     try:
-        for it in found_in_path(entry.path):
+        for it in found_in_path(entry.path, digests):
             yield it if it.content is None else metered(it, it.content, entry.path, left)
     except MemoryError:
         yield unread(entry, "out of memory")
@@ -241,10 +246,10 @@ def found_in_entry(entry: Entry) -> Iterator[Found]:
         yield unread(entry, why_of(error))
 
 
-def reads_of(entry: Entry, verifies: bool = False) -> Iterator[Read]:
+def reads_of(entry: Entry, how: Verification = NOT_VERIFIED) -> Iterator[Read]:
     """Reads a file, and gives what is to be stored of each place in it, the file itself last."""
-    for it in found_in_entry(entry):
-        yield read_of(entry, it, judged_or_not(it, verifies), verifies)
+    for it in found_in_entry(entry, digests=True):
+        yield read_of(entry, it, judged_or_not(it, how), how)
 
 
 # ---- rows as lines
@@ -268,7 +273,7 @@ def parts_of_rows(rows: Iterable[Row]) -> Iterator[Part]:
         yield Part(list(some.values()), is_first, False)
 
 
-def parts_of(entries: Iterable[Entry], verifies: bool = False) -> Iterator[Part]:
+def parts_of(entries: Iterable[Entry], how: Verification = NOT_VERIFIED) -> Iterator[Part]:
     """Reads files, and gives their rows."""
     for entry in entries:
-        yield from parts_of_rows(row_of(entry, it, verifies) for it in found_in_entry(entry))
+        yield from parts_of_rows(row_of(entry, it, how) for it in found_in_entry(entry, digests=True))

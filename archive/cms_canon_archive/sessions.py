@@ -25,6 +25,7 @@ from .guards import WORKER_LOCK
 from .opening import WORKERS_ENDING, NoStore, engine_of, is_sqlite
 from .processes import undisturbed
 from .reading import READER
+from .settings import Settings, stored
 from .spool import Spool, store
 from .tables import ABOUT, IS_TAKEN, IS_TO_DO, MOST_TRIED, OF_PARTS, PARTS, PLACES, WORKERS, PartState
 from .versions import ABOUT_NAMES, OtherVersion, Version, own_version, version_noted
@@ -54,6 +55,7 @@ class Held(NamedTuple):
     is_stored: bool
     anew: bool
     verifies: bool
+    settings: Optional[int]
     tries: int
     doing: Optional[str]
 
@@ -69,14 +71,15 @@ class New(NamedTuple):
     top: int
     anew: bool
     verifies: bool
+    settings: Optional[int]
 
 
-Known = Tuple[int, str, int, int, int, str, bool, bool]
+Known = Tuple[int, str, int, int, int, str, bool, bool, Optional[bytes]]
 """What is stored of a file itself, as the database gives it, since there is one for each file of an archive: its part, its name, the four values
-of an `Entry` after its path, whether it is good, and whether it is verified. It is good if it could be read, had not changed just before, and
-would be read the same by this version."""
+of an `Entry` after its path, whether it is good, whether it is verified, and the digest of the certificates that were given for that. It is good
+if it could be read, had not changed just before, and would be read the same by this version."""
 
-NOTHING: Known = (0, "", 0, 0, 0, "", False, False)
+NOTHING: Known = (0, "", 0, 0, 0, "", False, False, None)
 """What is known of a file that has rows, and none of its own."""
 
 
@@ -106,6 +109,7 @@ class Session:
         self._connection = self._engine.connect()
         self._free = Lock()
         self._locks: Optional[int] = None
+        self._settings: Dict[Optional[int], Settings] = {}
         self.number = 0
         self._ends = Event()
         try:
@@ -313,7 +317,7 @@ class Session:
         own = PLACES.c
         is_good = own.is_settled & (own.what != Class.UNREADABLE.value) & (own.reader == READER)
         said = (sa.func.coalesce(own.beside, ""), sa.func.coalesce(is_good, sa.false()), sa.func.coalesce(own.is_verified, sa.false()))
-        columns = (own.part, own.file, own.size, own.changed, own.inode, *said)
+        columns = (own.part, own.file, own.size, own.changed, own.inode, *said, own.verified_by)
         asked = sa.select(*columns).where(own.part.in_(ids), own.member == "")
         of_many = [it.id for it in parts if it.is_stored and (it.anew or it.name == "")]
         with self._reading() as connection:
@@ -323,6 +327,14 @@ class Session:
                 for part, name in _values_of(connection, _without_own_row(table, of_many)):
                     known[part].setdefault(name, NOTHING)
         return known
+
+    def settings(self, parts: Sequence[Held]) -> Dict[Optional[int], Settings]:
+        """Returns the settings of parts by their numbers. Settings with a number never change."""
+        missing = {it.settings for it in parts} - set(self._settings)
+        if missing:
+            with self._reading() as connection:
+                self._settings.update(stored(connection, missing))
+        return self._settings
 
     def files_with_parts(self, parts: Sequence[Held]) -> Dict[str, Set[str]]:
         """Returns the names of the files that are parts of their own, by their folders."""
@@ -340,12 +352,12 @@ class Session:
         Raises `Superseded` if one of them is another worker's by now.
         """
         ids = [it.id for it in parts]
-        columns = (PARTS.c.id, PARTS.c.top, PARTS.c.anew, PARTS.c.verifies)
+        columns = (PARTS.c.id, PARTS.c.top, PARTS.c.anew, PARTS.c.verifies, PARTS.c.settings)
         asked = sa.select(*columns).where(PARTS.c.id.in_(ids), PARTS.c.state == 1, PARTS.c.holder == self.number).with_for_update()
         found = connection.execute(asked).all()
         if len(found) != len(ids):
             raise Superseded("parts that this worker had taken were given to another one")
-        return {int(it.id): {"top": it.top, "anew": it.anew, "verifies": it.verifies} for it in found}
+        return {int(it.id): {"top": it.top, "anew": it.anew, "verifies": it.verifies, "settings": it.settings} for it in found}
 
     def put(self, outcomes: Sequence[Outcome], rows: Spool, unbegun: Sequence[Held] = ()) -> None:
         """Stores what came of parts in one transaction, and has others do those that were not begun. Raises `Superseded`."""

@@ -11,11 +11,11 @@ from typing import Callable, Iterator, List, NamedTuple, Optional, Sequence, Tup
 import cms_canon
 from cms_canon._facts import Facts, facts_of
 
-from .containers.files import SHORT, short, with_beside
+from .containers.files import SHORT, sha256_of, short, with_beside
 from .containers.finder import opened_alone, seen_alone
 from .containers.found import Class, Found
 from .containers.sources import Ended, Source
-from .judging import judged
+from .judging import NOT_VERIFIED, Verification, judged
 from .reading import MOST_BESIDE, Entry, Read, metered, read_of
 
 TOGETHER = 32  # files that are read together
@@ -50,12 +50,12 @@ def groups(files: Sequence[Tuple[str, Entry]]) -> Iterator[Sequence[Tuple[str, E
         yield files[begin:]
 
 
-def reads_together(entries: Sequence[Entry], verifies: bool = False) -> List[Optional[Read]]:
+def reads_together(entries: Sequence[Entry], how: Verification = NOT_VERIFIED) -> List[Optional[Read]]:
     """Returns what is to be stored of each short file in which nothing else lies, and None for any other file: `reads_of` has to read it, as it does
     one that cannot be read, or that is out of memory here."""
     seen = [_tried(_seen, it) for it in entries]
     said = [None if it is None else _tried(_said, it) for it in seen]
-    return [None if it is None else _tried(_read, it, verifies) for it in said]
+    return [None if it is None else _tried(_read, it, how) for it in said]
 
 
 def _tried(do: Callable[..., Optional[T]], *words: object) -> Optional[T]:
@@ -82,7 +82,7 @@ def _said(seen: _Seen) -> _Said:
         return _Said(seen, None)
 
 
-def _read(said: _Said, verifies: bool) -> Optional[Read]:
+def _read(said: _Said, how: Verification) -> Optional[Read]:
     entry, source, seen = said.seen
     place = opened_alone(seen, source, said.facts) if seen.what is Class.MESSAGE else seen
     if place is None:
@@ -90,4 +90,5 @@ def _read(said: _Said, verifies: bool) -> Optional[Read]:
     place = with_beside(place)
     if place.content is not None:
         place = metered(place, place.content, entry.path, [MOST_BESIDE])
-    return read_of(entry, place, judged(place, verifies), verifies)
+    place = place._replace(sha256=sha256_of(source, source.size))
+    return read_of(entry, place, judged(place, how), how)

@@ -9,13 +9,13 @@ from __future__ import annotations
 import io
 import pickle
 import tempfile
-from typing import IO, Any, Dict, Iterable, Iterator, List, Optional, Tuple
+from typing import IO, Any, Dict, Iterable, Iterator, List, Optional, Sequence, Tuple
 
 import sqlalchemy as sa
 from sqlalchemy.exc import DBAPIError
 
 from .reading import Read, Values
-from .tables import LISTS, PLACES, PLACE_SIGNERS, PLACE_TIMES
+from .tables import LISTS, PLACES, PLACE_SIGNERS, PLACE_TIMES, Digest, sent_columns
 
 TOGETHER = 10_000  # rows that are in memory: the rows of a tar may be millions
 
@@ -83,15 +83,20 @@ def store(connection: sa.engine.Connection, pieces: Iterable[Tuple[sa.Table, Lis
 
 
 def _insert(connection: sa.engine.Connection, table: sa.Table, rows: List[Values]) -> None:
-    places = ", ".join("?" * len(table.columns))
-    connection.exec_driver_sql(f"INSERT INTO {table.name} VALUES ({places})", rows)
+    columns = sent_columns(table)
+    connection.exec_driver_sql(f"INSERT INTO {table.name} ({_named(connection, columns)}) VALUES ({', '.join('?' * len(columns))})", rows)
+
+
+def _named(connection: sa.engine.Connection, columns: Iterable[sa.Column]) -> str:
+    quote = connection.dialect.identifier_preparer.quote
+    return ", ".join(quote(it.name) for it in columns)
 
 
 def _copy(connection: sa.engine.Connection, table: sa.Table, rows: List[Values]) -> None:
-    at = [it.name for it in table.columns].index("digest") if table is PLACES else None
-    quote = connection.dialect.identifier_preparer.quote
-    names = ", ".join(quote(it.name) for it in table.columns)
-    text = "".join([_line(it, at) for it in rows]).encode()
+    columns = sent_columns(table)
+    names = _named(connection, columns)
+    octets_at = [number for number, it in enumerate(columns) if isinstance(it.type, Digest)]
+    text = "".join([_line(it, octets_at) for it in rows]).encode()
     driver, cursor = connection.dialect.dbapi, connection.connection.cursor()
     try:
         cursor.copy_expert(f"COPY {table.name} ({names}) FROM STDIN", io.BytesIO(text))
@@ -106,14 +111,15 @@ _NULL, _OCTETS = "\0", "\1"  # stand in a line for what would need a backslash: 
 _ESCAPES = str.maketrans({"\\": "\\\\", "\t": "\\t", "\n": "\\n", "\r": "\\r", "\0": "", "\1": ""})
 
 
-def _line(row: Values, digest_at: Optional[int]) -> str:
+def _line(row: Values, octets_at: Sequence[int]) -> str:
     """Returns a row as COPY takes it. Few rows have anything that is to be escaped, so all of a row is looked at once."""
     words = [it if type(it) is str else _NULL if it is None else _word(it) for it in row]
-    if digest_at is not None and row[digest_at] is not None:
-        words[digest_at] = _OCTETS + row[digest_at].hex()
+    for at in octets_at:
+        if row[at] is not None:
+            words[at] = _OCTETS + row[at].hex()
     line = "\t".join(words)
     if "\\" in line or "\n" in line or "\r" in line or line.count("\t") >= len(words):
-        line = "\t".join([it if it is _NULL or n == digest_at else it.translate(_ESCAPES) for n, it in enumerate(words)])
+        line = "\t".join([it if it is _NULL or n in octets_at else it.translate(_ESCAPES) for n, it in enumerate(words)])
     return line.replace(_OCTETS, "\\\\x").replace(_NULL, "\\N") + "\n"
 
 

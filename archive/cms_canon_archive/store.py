@@ -19,11 +19,12 @@ import sqlalchemy as sa
 from sqlalchemy.exc import DBAPIError
 
 from .containers.found import Class
+from .history import compare
 from .migrating import WrongVersion, alone, migrate, newer, version_in
 from .opening import NoIndex, NoStore, engine_of, is_sqlite, is_writable, own_files, url_of, without_password
 from .reading import MOST, Part, Row
 from .tables import ABOUT, ALLOWED, BY_DIGEST, FILES, LISTS, MOST_OF_A_KEY, NOT_NEGATIVE, OF_PARTS, PARTS, PLACES, REASONS, SCHEMA, SIGNERS, TIMES
-from .tables import Digest, PartState, columns_of, insertion, is_digest, shown
+from .tables import Digest, PartState, columns_of, insertion, is_digest, sent_columns, shown
 from .texts import chunk_of, folder_and_name
 
 __all__ = ["FILES", "SIGNERS", "TIMES", "NoStore", "Store", "is_row", "url_of", "without_password"]
@@ -105,7 +106,7 @@ def _insertion(table: sa.Table, dialect: Any) -> Any:
     """Returns the statement that stores rows, each in place of what is stored under its name."""
     keys = [it.name for it in table.primary_key.columns]
     stored = insertion(table, dialect.name)
-    others = {it.name: stored.excluded[it.name] for it in table.columns if it.name not in keys}
+    others = {it.name: stored.excluded[it.name] for it in sent_columns(table) if it.name not in keys}
     return stored.on_conflict_do_update(index_elements=keys, set_=others)
 
 
@@ -232,13 +233,14 @@ class Store:
 
     def _insert(self, connection: sa.engine.Connection, table: sa.Table, rows: List[Row]) -> None:
         if rows:
-            columns = [it.name for it in table.columns]
+            columns = [it.name for it in sent_columns(table)]
             connection.execute(_insertion(table, self.engine.dialect), [{name: row[name] for name in columns} for row in rows])
 
     def finish(self) -> None:
-        """Makes the index of digests if it is not there: with millions of rows, to add to it for each row takes most of the time."""
+        """Makes the index of digests if it is not there, since to add to it for each of millions of rows takes most of the time, and compares what was dropped."""
         with alone(self.engine) as connection:
             connection.execute(sa.schema.CreateIndex(BY_DIGEST, if_not_exists=True))
+        compare(self.engine)
         if self.is_sqlite:
             with self.engine.connect() as connection:
                 connection.exec_driver_sql("PRAGMA wal_checkpoint(TRUNCATE)")  # so that the file alone can be copied

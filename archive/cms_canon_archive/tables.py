@@ -22,7 +22,7 @@ from cms_canon._texts import REFUSALS
 from .containers.found import Class, State
 from .texts import LONGEST
 
-SCHEMA = 4  # the version of the tables: 1 is that of releases up to 0.8.0, which say no version, 2 of 0.9.0, and 3 of those from 0.10.0 to 0.17.0
+SCHEMA = 5  # the version of the tables: 1 of releases up to 0.8.0, which say no version, 2 of 0.9.0, 3 of 0.10.0 to 0.17.0, and 4 of 0.18.0 to 0.24.0
 MOST_CHUNKS = 16  # of a folder: each lists all of it
 MOST_TRIED = 1000  # times that a part was taken, as they are counted
 MOST_OF_A_KEY = LONGEST + 68  # octets of a name, with what is said at its end if it was cut
@@ -86,6 +86,23 @@ def _plain_in_sqlite(element: _Plain, compiler: Any, **how: Any) -> str:
     return f"({compiler.process(element.text, **how)}) NOT GLOB {control}"
 
 
+class Now(sa.sql.ColumnElement):  # type: ignore[misc]  # SQLAlchemy 1.4 has no types
+    """The time by the clock of the database, in seconds since 1970."""
+
+    inherit_cache = True
+    type = sa.BigInteger()
+
+
+@compiles(Now, "postgresql")  # type: ignore[misc]  # likewise
+def _now_in_postgresql(element: Now, compiler: Any, **how: Any) -> str:
+    return "extract(epoch FROM now())::bigint"
+
+
+@compiles(Now)  # type: ignore[misc]  # likewise
+def _now_in_sqlite(element: Now, compiler: Any, **how: Any) -> str:
+    return "CAST(strftime('%s', 'now') AS INTEGER)"
+
+
 ALLOWED: Dict[str, Tuple[str, ...]] = {  # what these columns of a place have, if they have anything
     "what": tuple(it.value for it in Class),
     "state": tuple(it.value for it in State),
@@ -93,12 +110,22 @@ ALLOWED: Dict[str, Tuple[str, ...]] = {  # what these columns of a place have, i
     "verdict": ("right", "wrong", "unknown"),
 }
 REASONS = range(1, len(REFUSALS) + 1)
+KEPT = ("what", "length", "digest", "sha256", "state", "verdict", "stored")  # the columns of a place that are kept of a row which is dropped
 NOT_NEGATIVE = ("length", "size", "inode", "signers", "at", "reader")
 
 
 # ---- the tables
 
 ABOUT = sa.Table("about", TABLES, sa.Column("name", sa.String(32), primary_key=True), sa.Column("value", sa.Text, nullable=False))
+
+SETTINGS = sa.Table(
+    "settings",
+    TABLES,
+    sa.Column("id", _Number, sa.Identity(), primary_key=True),
+    sa.Column("certificates", sa.Text, nullable=False),  # by which signatures are verified, in base64, as a list of JSON
+    sa.Column("excluded", sa.Text, nullable=False),  # the patterns of names that are left out, as a list of JSON
+    sa.Column("one_file_system", sa.Boolean, nullable=False),  # whether folders on others than the folder above are left out
+)
 
 PARTS = sa.Table(
     "parts",
@@ -114,6 +141,7 @@ PARTS = sa.Table(
     sa.Column("again", sa.Boolean, nullable=False, server_default=sa.false()),  # to be done once more when it is done
     sa.Column("is_stored", sa.Boolean, nullable=False, server_default=sa.false()),  # whether there may be rows of it
     *(sa.Column(it, sa.Boolean, nullable=False, server_default=sa.false()) for it in ("anew", "verifies")),  # how it is to be read
+    sa.Column("settings", sa.BigInteger),  # how else it is to be read, if there is more to say
     sa.Column("tries", sa.Integer, nullable=False, server_default="0"),
     sa.Column("doing", _Name),  # the file that is read now, if each is stored by itself since a worker died before
     sa.Column("holder", sa.BigInteger),  # the worker that has it or did it
@@ -187,7 +215,10 @@ PLACES = sa.Table(
     sa.Column("is_verified", sa.Boolean),
     sa.Column("library", sa.String(32)),
     sa.Column("reader", sa.Integer),
+    sa.Column("sha256", Digest),  # of the octets of the file, in its own row
+    sa.Column("verified_by", Digest),  # the digest of the certificates by which signatures were verified, if some were given
     sa.Column("worker", sa.BigInteger),  # who read it; of lines that were loaded nobody
+    sa.Column("stored", sa.BigInteger, server_default=Now()),  # since when it is so, in seconds since 1970; unknown of rows of older tables
     sqlite_with_rowid=False,
 )
 PLACE_SIGNERS = sa.Table(
@@ -199,6 +230,8 @@ PLACE_SIGNERS = sa.Table(
     *(sa.Column(it, sa.Text) for it in ("not_before", "not_after", "key")),
     sa.Column("bits", sa.Integer),
     sa.Column("certificate", sa.Text),  # the algorithm by which the certificate is signed
+    sa.Column("verified_by", sa.Text),  # the SHA-256 of the certificate by which the signature is right
+    sa.Column("message_digest", sa.Text),  # of what is signed, in hexadecimal digits
     sqlite_with_rowid=False,
 )
 PLACE_TIMES = sa.Table(
@@ -207,8 +240,26 @@ PLACE_TIMES = sa.Table(
     *_keys(),
     sa.Column("number", sa.String(64), primary_key=True),
     *(sa.Column(it, sa.Text) for it in ("time", "policy", "serial", "digest", "state")),
+    *(sa.Column(it, sa.Text) for it in ("subject", "not_after", "signature", "key")),  # of who signed the token
+    sa.Column("bits", sa.Integer),
+    sa.Column("imprint", sa.Text),  # the digest of what is time-stamped, in hexadecimal digits
     sqlite_with_rowid=False,
 )
+HISTORY = sa.Table(  # rows of places as they were before they were dropped, by the database itself, so that no worker can leave one out
+    "history",
+    TABLES,
+    sa.Column("id", _Number, sa.Identity(), primary_key=True),
+    sa.Column("folder", _Name, nullable=False),  # with a slash at its end
+    sa.Column("file", _Name, nullable=False),  # of the folder itself it is empty
+    sa.Column("member", _Name, nullable=False),
+    *(sa.Column(it.name, it.type) for it in PLACES.columns if it.name in KEPT),
+    sa.Column("ended", sa.BigInteger, nullable=False, server_default=Now()),  # until when it was so
+    sa.Column("is_compared", sa.Boolean, nullable=False, server_default=sa.false()),  # with what came after it, which is something else
+)
+IS_NOT_COMPARED = sa.text("NOT history.is_compared")
+sa.Index("history_by_place", HISTORY.c.folder, HISTORY.c.file, HISTORY.c.member)
+sa.Index("history_by_end", HISTORY.c.ended)
+sa.Index("history_not_compared", HISTORY.c.id, sqlite_where=sa.text("NOT is_compared"))
 LISTS = {"signed_by": PLACE_SIGNERS, "times": PLACE_TIMES}  # the lists of a row, and the table of each
 KEYS = tuple(it.name for it in _keys())
 OF_PARTS = (PLACES, PLACE_SIGNERS, PLACE_TIMES)
@@ -225,8 +276,13 @@ def insertion(table: sa.Table, dialect: str) -> Any:
 
 
 def columns_of(table: sa.Table) -> List[sa.Column]:
-    """Returns the columns of a table but for the place that its row is of, and who read it."""
-    return [it for it in table.columns if it.name not in (*KEYS, "worker")]
+    """Returns the columns of a table but for the place that its row is of, who read it, and when."""
+    return [it for it in table.columns if it.name not in (*KEYS, "worker", "stored")]
+
+
+def sent_columns(table: sa.Table) -> List[sa.Column]:
+    """Returns the columns that a row is sent with. When it is stored is by the clock of the database."""
+    return [it for it in table.columns if it.name != "stored"]
 
 
 def _is_one_of(column: sa.Column, values: Iterable[str]) -> Any:
@@ -238,7 +294,7 @@ def _restrict() -> None:
     """Has the database refuse what no worker that works would send."""
     own, is_message = PLACES.c, PLACES.c.what == Class.MESSAGE.value
     checks = {
-        "digest": sa.func.length(own.digest, type_=sa.Integer) == 32,
+        **{it.name: sa.func.length(it, type_=sa.Integer) == 32 for it in PLACES.columns if isinstance(it.type, Digest)},
         "reason": own.reason.between(REASONS[0], REASONS[-1]),
         "is_message": is_message == own.digest.is_not(None),
         "is_refused": (own.what == Class.REFUSED.value) == own.reason.is_not(None),
@@ -275,6 +331,7 @@ def _asked_of(name: str, table: sa.Table) -> Any:
     """Returns a table with the path of each row, and its part and file under other names."""
     path = PARTS.c.path.concat(PARTS.c.name).concat(table.c.file) if table is not PLACES else PATH
     columns = (path.label("path"), table.c.member, table.c.part.label(_OF_PART), table.c.file.label(_OF_FILE), *columns_of(table))
+    columns += (table.c.stored,) if table is PLACES else ()
     return sa.select(*columns).select_from(table.join(PARTS, PARTS.c.id == table.c.part)).subquery(name)
 
 

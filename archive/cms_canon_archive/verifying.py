@@ -7,6 +7,7 @@ from __future__ import annotations
 
 import os
 import stat
+from collections import defaultdict
 from itertools import groupby, islice
 from random import SystemRandom
 from typing import Any, Dict, Iterable, Iterator, List, NamedTuple, Optional, Sequence, Set, Tuple, TypeVar
@@ -14,10 +15,12 @@ from typing import Any, Dict, Iterable, Iterator, List, NamedTuple, Optional, Se
 import sqlalchemy as sa
 
 from .containers.packed import why_of
-from .folders import NOT_THERE, Listing, is_gone, listed, path_named_by, path_of, texts_of_folder
+from .folders import NOT_THERE, Listing, is_gone, is_left_out, listed, path_named_by, path_of, texts_of_folder
+from .judging import BY_MESSAGE, NOT_VERIFIED, Verification
 from .queries import name_of
 from .reading import NO_PATH, TOO_LONG, Entry, Row, reads_of, row_in_file
 from .sessions import Held
+from .settings import NO_SETTINGS, Settings, stored, verification_in
 from .store import ASKED, Store
 from .tables import LISTS, OF_PARTS, PARTS, PLACES, WORKERS, PartState, columns_of
 from .texts import chunk_of, folder_and_name, is_cut, name_of_text
@@ -25,9 +28,10 @@ from .walking import entry_of, is_reached
 
 NOT_STORED = "it is not stored"
 GONE = "it is not there any more"
+NO_CERTIFICATES = "it is said to be verified by certificates that the store does not have"
 _COMPARED = (
     *("what", "form", "length", "size", "digest", "kind", "signers", "is_der", "time", "reason", "name", "at", "content_type", "content", "state", "findings"),
-    *("digests", "signatures", "verdict"),
+    *("digests", "signatures", "verdict", "sha256", "verified_by"),
 )
 _SAID = ("error", "note")
 _LISTS_DIFFER = {"signed_by": "its signers are stored otherwise", "times": "its times are stored otherwise"}
@@ -137,6 +141,12 @@ def _parts(store: Store, sample: Optional[int]) -> Iterator[Difference]:
         yield from _Folders(store, own, some).compared()
 
 
+def _settings_of(store: Store, numbers: Iterable[Optional[int]]) -> Dict[Optional[int], Settings]:
+    """Returns settings by their numbers, and none for a number under which nothing is stored."""
+    with store.engine.connect() as connection:
+        return defaultdict(lambda: NO_SETTINGS, stored(connection, numbers))
+
+
 class _Folders:
     """Some parts, with what is stored of their files."""
 
@@ -148,6 +158,7 @@ class _Folders:
         columns = [PARTS.c[it] for it in (*Held._fields, *_Part._fields[1:])]
         rows = [tuple(row.values()) for row in store.asked(sa.select(*columns).where(PARTS.c.id.in_(ids)).order_by(PARTS.c.id))]
         self._parts = [_Part(Held(*row[: len(Held._fields)]), *row[len(Held._fields) :]) for row in rows]
+        self._settings = _settings_of(store, [it.held.settings for it in self._parts])
         self._stored: Dict[int, Dict[str, Optional[int]]] = {it.held.id: {} for it in self._parts}
         for row in store.asked(sa.select(PLACES.c.part, PLACES.c.file, PLACES.c.worker).where(PLACES.c.part.in_(ids), PLACES.c.member == "")):
             self._stored[int(row["part"])][str(row["file"])] = row["worker"]
@@ -176,7 +187,7 @@ class _Folders:
             yield part.difference(text, NO_PATH)
             return
         try:
-            is_there = not is_gone(path, held)
+            is_there = not is_gone(path, held) and not is_left_out(path, held, self._settings[held.settings])
         except OSError as error:  # of which the worker stores nothing either
             yield Difference(text, f"it cannot be looked at: {why_of(error)}")
             return
@@ -190,7 +201,7 @@ class _Folders:
     def _compared_with_folder(self, part: _Part, path: str) -> Iterator[Difference]:
         held, stored = part.held, self._stored[part.held.id]
         try:
-            listing = listed(path, held.chunk, held.chunks)
+            listing = listed(path, held.chunk, held.chunks, self._settings[held.settings])
         except OSError as error:
             yield from [] if "" in stored else [part.difference(held.path, f"it cannot be listed: {why_of(error)}")]
             return
@@ -264,7 +275,7 @@ def _files(store: Store, sample: Optional[int]) -> Iterator[Difference]:
         elif not file.is_folder and not _is_file(path):
             yield Difference(file.path, GONE, default)
         else:
-            yield from _compared_with_file(file, path, default)
+            yield from _compared_with_file(store, file, path, default)
 
 
 def _is_file(path: str) -> bool:
@@ -275,15 +286,29 @@ def _is_file(path: str) -> bool:
         return error.errno not in NOT_THERE
 
 
-def _compared_with_file(file: _Stored, path: str, default: Optional[int]) -> Iterator[Difference]:
+def _compared_with_file(store: Store, file: _Stored, path: str, default: Optional[int]) -> Iterator[Difference]:
     entry = Entry(path, 0, 0, 0) if file.is_folder else entry_of(path)
-    verifies = file.verifies or any(row["is_verified"] for row in file.places.values())
-    came = {it.place.member: row_in_file(it) for it in reads_of(entry, verifies)}
+    how = _how_verified(store, file)
+    if how is None:
+        yield Difference(file.path, NO_CERTIFICATES, default)
+        return
+    came = {it.place.member: row_in_file(it) for it in reads_of(entry, how)}
     for member in sorted({*file.places, *came}):
         stored = file.places.get(member)
         if why := _difference(stored, came.get(member)):
             worker = default if stored is None or stored["worker"] is None else stored["worker"]
             yield Difference(name_of({"path": file.path, "member": member}), why, worker)
+
+
+def _how_verified(store: Store, file: _Stored) -> Optional[Verification]:
+    """Returns how the signatures of a file were verified; None if that was by certificates that the store does not have."""
+    if not file.verifies and not any(row["is_verified"] for row in file.places.values()):
+        return NOT_VERIFIED
+    digest = next((str(row["verified_by"]) for row in file.places.values() if row["verified_by"] is not None), None)
+    if digest is None:
+        return BY_MESSAGE
+    with store.engine.connect() as connection:
+        return verification_in(connection, digest)
 
 
 def _files_of(store: Store, sample: Optional[int]) -> Iterator[_Stored]:

@@ -106,7 +106,7 @@ class Worker:
         """Does several parts, and stores them together. If the store refuses them, each is tried by itself."""
         rows = Spool(session.number)
         try:
-            reader = Reader(self._own, session.known(parts), session.files_with_parts(parts), rows)
+            reader = Reader(self._own, session.known(parts), session.files_with_parts(parts), rows, session.settings(parts))
             outcomes: List[Outcome] = []
             files = 0
             for part in parts:
@@ -134,7 +134,7 @@ class Worker:
         rows = Spool(session.number)
         outcome = Outcome(part)
         known = session.known([part])
-        reader = Reader(self._own, known, session.files_with_parts([part]), rows)
+        reader = Reader(self._own, known, session.files_with_parts([part]), rows, session.settings([part]))
         try:
             for file, entry in reader.begin(outcome):
                 if file == "":
@@ -160,7 +160,7 @@ class Worker:
         rows = Spool(session.number)
         try:
             outcome = Outcome(part._replace(is_stored=True))
-            Reader(self._own, {}, {}, rows).read_file(outcome, file, entry)
+            Reader(self._own, {}, {}, rows, session.settings([part])).read_file(outcome, file, entry)
             _tried(lambda: session.put_file(outcome, rows))
         except (IntegrityError, DataError) as error:
             self._put_error(session, part, file, f"{REFUSED}: {_constraint_of(error)}")
@@ -173,7 +173,7 @@ class Worker:
         outcome = Outcome(part._replace(is_stored=True))
         outcome.is_given_up = is_over
         try:
-            Reader(self._own, {}, {}, rows).put_error(outcome, file, (path_of(part) or part.path) + file, why)
+            Reader(self._own, {}, {}, rows, session.settings([part])).put_error(outcome, file, (path_of(part) or part.path) + file, why)
             _tried(lambda: session.put([outcome], rows) if is_over else session.put_file(outcome, rows))
         finally:
             rows.close()

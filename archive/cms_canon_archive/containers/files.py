@@ -3,6 +3,7 @@
 from __future__ import annotations
 
 import errno
+import hashlib
 import io
 import os
 import stat
@@ -131,15 +132,31 @@ def short(path: str) -> Optional[Source]:
     return in_memory(path, octets, Budget(size), _Short)
 
 
-def found_in_path(path: str) -> Iterator[Found]:
-    """Gives what is found in a file, and last the file itself. Raises `OSError` or `Unreadable` if it cannot be read."""
+def found_in_path(path: str, digests: bool = False) -> Iterator[Found]:
+    """Gives what is found in a file, and last the file itself, with the SHA-256 of its octets if that is wanted.
+
+    Raises `OSError` or `Unreadable` if it cannot be read.
+    """
     octets, file, size = _begun(path)
     budget = Budget(size)
     if file is None:
-        yield from _found_in(in_memory(path, octets, budget, _Short))
+        yield from _found_in(in_memory(path, octets, budget, _Short), digests)
         return
     with file:
-        yield from _found_in(Source(path, file, size, budget, is_seekable=True))
+        yield from _found_in(Source(path, file, size, budget, is_seekable=True), digests)
+
+
+def sha256_of(source: Source, size: int) -> Optional[bytes]:
+    """Returns the SHA-256 of a file that had so many octets when it was opened; None if it has another number of them by now."""
+    digest = hashlib.sha256()
+    if source.is_whole:
+        digest.update(source.octets())
+        return digest.digest() if len(source.octets()) == size else None
+    file, left = source.begun(), size + 1
+    while left and (piece := file.read(min(PIECE, left))):
+        digest.update(piece)
+        left -= len(piece)
+    return digest.digest() if left == 1 else None
 
 
 def with_beside(found: Found) -> Found:
@@ -147,10 +164,16 @@ def with_beside(found: Found) -> Found:
     return found.with_content(beside(found.wants)) if found.wants else found
 
 
-def _found_in(source: Source) -> Iterator[Found]:
+def _found_in(source: Source, digests: bool) -> Iterator[Found]:
     size = source.size
+    own = None
     try:
         for it in numbered(found_in(source)):
-            yield with_beside(it)
+            if it.where == "":
+                own = it
+            else:
+                yield with_beside(it)
     except TooMuch as why:
-        yield Found("", "file", Class.TOO_LARGE, size, note=str(why))
+        own = Found("", "file", Class.TOO_LARGE, size, note=str(why))
+    if own is not None:
+        yield with_beside(own._replace(sha256=sha256_of(source, size)) if digests else own)

@@ -122,6 +122,8 @@ class Found(NamedTuple):
     """Whether the content that it holds itself has been looked into."""
     facts: Optional[Facts] = None
     """What the message says, if it was read for that, and is so short that this was kept."""
+    sha256: Optional[bytes] = None
+    """That of all octets of the file itself, if it was wanted; None if the file became longer or shorter as it was read."""
 
     def within(self, name: str) -> Found:
         r"""Returns the same as it is called from outside the member of this name, in which `!` is written as `\x21`."""

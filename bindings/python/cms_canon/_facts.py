@@ -108,6 +108,8 @@ class TokenFacts(NamedTuple):
     serial_number: int
     hash_algorithm: bytes
     """The contents octets of the OBJECT IDENTIFIER of the algorithm of the imprint."""
+    imprint: bytes
+    """The digest of what is stamped."""
 
 
 def facts_of(octets: bytes, checks: bool, limit: int = LIMIT) -> Facts:
@@ -177,4 +179,5 @@ def token_facts_of(tst_info: bytes) -> TokenFacts:
         dotted(fields[kinds.TST_POLICY]),
         int.from_bytes(fields[kinds.TST_SERIAL_NUMBER], "big", signed=True),
         fields[kinds.HASH_ALGORITHM],
+        fields.get(kinds.HASHED_MESSAGE, b""),
     )

@@ -1,0 +1,155 @@
+"""Lists of the SHA-256 of files: written for `sha256sum -c` and for BagIt, and compared with what an index read."""
+
+from __future__ import annotations
+
+import os
+import re
+from typing import Dict, Iterator, List, NamedTuple, Optional, Tuple
+
+import sqlalchemy as sa
+
+from .containers.found import Class
+from .faults import Complaint
+from .reading import Row
+from .store import FILES, Store
+from .texts import is_cut, name_of_text, path_text_of
+
+MOST = 1 << 30  # octets of a manifest that is compared: its names are in memory
+_LINE = re.compile(rb"(\\?)([0-9a-fA-F]{64}) [ *]?(.+)", re.DOTALL)
+_TAGGED = re.compile(rb"(\\?)SHA256 \((.+)\) = ([0-9a-fA-F]{64})", re.DOTALL)
+_ESCAPES = {b"\\\\": b"\\", b"\\n": b"\n", b"\\r": b"\r"}
+_OF_BAG = {b"%25": b"%", b"%0A": b"\n", b"%0a": b"\n", b"%0D": b"\r", b"%0d": b"\r"}
+PAYLOAD = b"data/"  # the folder of a bag with the files that it is for (RFC 8493, section 2.1.2)
+NOT_KNOWN = "its SHA-256 is not known: it cannot be read, was changed as it was read, or was stored by an older release; `index` reads it again"
+CUT = "its name is too long to be read back"
+
+
+class Line(NamedTuple):
+    """A file of a manifest, or why it is not in it."""
+
+    octets: bytes
+    why_not: Optional[str] = None
+
+
+# ---- writing
+
+
+def _rows(store: Store, under: Optional[str]) -> Iterator[Row]:
+    """Gives the files of an index, and the folders that cannot be read, with their SHA-256."""
+    columns = (FILES.c.path, FILES.c.sha256, FILES.c.what)
+    asked = sa.select(*columns).where(FILES.c.member == "").order_by(FILES.c.path)
+    if under is not None:
+        inside = under.rstrip("/") + "/"
+        asked = asked.where((FILES.c.path == under) | ((FILES.c.path >= inside) & (FILES.c.path < inside[:-1] + "0")))
+    return store.asked(asked)
+
+
+def sha256sum(store: Store, under: Optional[str]) -> Iterator[Line]:
+    """Gives the lines that `sha256sum -c` reads, for the files of an index, or of a folder of it. Names are whole paths."""
+    for row in _rows(store, under):
+        why = _why_not(row)
+        if why is not None:
+            yield Line(str(row["path"]).encode("utf-8", "surrogateescape"), why)
+            continue
+        name = os.fsencode(name_of_text(str(row["path"])))
+        escaped = name.replace(b"\\", b"\\\\").replace(b"\n", b"\\n").replace(b"\r", b"\\r")
+        yield Line((b"" if escaped == name else b"\\") + str(row["sha256"]).encode() + b"  " + escaped + b"\n")
+
+
+def bagit(store: Store, bag: str) -> Iterator[Line]:
+    """Gives the lines of the file `manifest-sha256.txt` of a bag (RFC 8493, section 2.1.3), for the files in its folder `data`.
+
+    Raises `Complaint` if the index has none of these.
+    """
+    inside, count = len(os.fsencode(name_of_text(bag)).rstrip(b"/")) + 1, 0
+    for row in _rows(store, f"{bag.rstrip('/')}/data"):
+        count += 1
+        why = _why_not(row)
+        if why is not None:
+            yield Line(str(row["path"]).encode("utf-8", "surrogateescape"), why)
+            continue
+        name = os.fsencode(name_of_text(str(row["path"])))[inside:]
+        escaped = name.replace(b"%", b"%25").replace(b"\n", b"%0A").replace(b"\r", b"%0D")
+        yield Line(str(row["sha256"]).encode() + b"  " + escaped + b"\n")
+    if not count:
+        raise Complaint(f"{bag}: the index has no file in its folder data")
+
+
+def _why_not(row: Row) -> Optional[str]:
+    if row["sha256"] is None:
+        return "it could not be read" if row["what"] == Class.UNREADABLE.value else NOT_KNOWN
+    return CUT if is_cut(str(row["path"])) else None
+
+
+# ---- comparing
+
+
+class Manifest(NamedTuple):
+    """What a manifest says: the SHA-256 of each file by the text of its path."""
+
+    digests: Dict[str, bytes]
+    folder: str
+    """The folder in which the manifest lies, which its names are relative to."""
+
+
+def manifest_in(path: str) -> Manifest:
+    """Reads a manifest as `sha256sum` writes it, with or without `--tag`, or as BagIt has it. Raises `Complaint` if it is none."""
+    try:
+        with open(path, "rb") as file:
+            octets = file.read(MOST + 1)
+    except OSError as why:
+        raise Complaint(f"{path}: {why.strerror}") from None
+    if len(octets) > MOST:
+        raise Complaint(f"{path}: it has more than {MOST:,} octets")
+    folder = os.path.dirname(os.path.abspath(path))
+    lines = octets.split(b"\n")
+    is_of_bag = os.path.basename(path) == "manifest-sha256.txt"
+    digests: Dict[str, bytes] = {}
+    for number, line in enumerate(lines[:-1] if lines[-1] == b"" else lines, 1):
+        name, digest = _read(line.rstrip(b"\r"), is_of_bag, f"{path}: line {number}")
+        text = path_text_of(os.path.normpath(os.path.join(folder, os.fsdecode(name))))
+        if digests.setdefault(text, digest) != digest:
+            raise Complaint(f"{path}: line {number}: this file has another SHA-256 in an earlier line")
+    if not digests:
+        raise Complaint(f"{path}: it lists no file")
+    return Manifest(digests, folder)
+
+
+def _read(line: bytes, is_of_bag: bool, where: str) -> Tuple[bytes, bytes]:
+    """Returns the name and the SHA-256 in a line."""
+    if found := _TAGGED.fullmatch(line):
+        escaped, name, digest = found.groups()
+    elif found := _LINE.fullmatch(line):
+        escaped, digest, name = found.groups()
+    else:
+        raise Complaint(f"{where} is not a SHA-256 in 64 hexadecimal digits and a name, as sha256sum and BagIt write them")
+    if escaped:
+        name = re.sub(rb"\\[\\nr]", lambda it: _ESCAPES[it[0]], name)
+    if is_of_bag:
+        name = re.sub(rb"%(?:25|0[AaDd])", lambda it: _OF_BAG[it[0]], name.lstrip(b" "))
+    return name, bytes.fromhex(digest.decode())
+
+
+class Difference(NamedTuple):
+    """A file of which a manifest and an index do not say the same."""
+
+    why: str
+    path: str
+
+
+def differing(store: Store, manifest: Manifest, tops: List[str]) -> Iterator[Difference]:
+    """Gives what differs between a manifest and the files of an index that lie in paths which were named: files with another SHA-256, or with none,
+    files that are missing, and files that are not listed. The manifest itself need not be."""
+    left = dict(manifest.digests)
+    for top in tops:
+        for row in _rows(store, path_text_of(top)):
+            path = str(row["path"])
+            wanted = left.pop(path, None)
+            if wanted is None:
+                yield Difference("not listed", path)
+            elif row["sha256"] is None:
+                yield Difference("not known", path)
+            elif bytes.fromhex(str(row["sha256"])) != wanted:
+                yield Difference("differs", path)
+    for path in sorted(left):
+        yield Difference("missing", path)

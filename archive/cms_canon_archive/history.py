@@ -1,0 +1,221 @@
+"""What places in an archive were before: the database keeps each row that is dropped, and here it is compared with what came after it.
+
+The database does that itself, by a trigger, so that no worker can leave out what was there. A row that came again as it was is dropped from
+the history when an index ends; until then it is not told apart, since the files of a folder may move from one part to another.
+"""
+
+from __future__ import annotations
+
+from datetime import datetime, timezone
+from enum import Enum
+from itertools import islice
+from typing import TYPE_CHECKING, Any, Dict, Iterator, List, NamedTuple, Optional
+
+import sqlalchemy as sa
+
+from .containers.found import Class, State
+from .tables import HISTORY, IS_NOT_COMPARED, KEPT, PARTS, PATH, PLACES
+
+if TYPE_CHECKING:
+    from .store import Store
+
+ASKED = 900  # rows in a statement: SQLite before 3.32 takes 999 values
+
+BEGAN = "began"  # the name under which a store says when the last index began, in seconds since 1970
+TOGETHER = 5000  # rows that are compared in one transaction
+
+_COLUMNS = ", ".join(KEPT)
+_IN_SQLITE = f"""CREATE TRIGGER kept AFTER DELETE ON places FOR EACH ROW BEGIN
+    INSERT INTO history (folder, file, member, {_COLUMNS})
+        SELECT path, parts.name || OLD.file, OLD.member, {", ".join(f"OLD.{it}" for it in KEPT)} FROM parts WHERE id = OLD.part;
+END"""
+_IN_POSTGRESQL = f"""
+CREATE OR REPLACE FUNCTION archive_rows_are_kept() RETURNS trigger LANGUAGE plpgsql SECURITY DEFINER SET search_path = {{schema}}, pg_temp AS $$
+BEGIN
+    INSERT INTO history (folder, file, member, {_COLUMNS})
+        SELECT path, parts.name || was.file, was.member, {", ".join(f"was.{it}" for it in KEPT)} FROM was JOIN parts ON parts.id = was.part;
+    RETURN NULL;
+END $$;
+DROP TRIGGER IF EXISTS kept ON places;
+CREATE TRIGGER kept AFTER DELETE ON places REFERENCING OLD TABLE AS was FOR EACH STATEMENT EXECUTE FUNCTION archive_rows_are_kept();
+"""
+
+
+def keep(connection: sa.engine.Connection) -> None:
+    """Has the database keep the rows of places that are dropped from now on, whoever drops them."""
+    if connection.dialect.name != "postgresql":
+        connection.exec_driver_sql(_IN_SQLITE)
+        return
+    schema = connection.dialect.identifier_preparer.quote(str(connection.exec_driver_sql("SELECT current_schema()").scalar()))
+    connection.exec_driver_sql(_IN_POSTGRESQL.format(schema=schema).replace("%", "%%"))
+
+
+# ---- what came after
+
+
+_LATER = HISTORY.alias("later")
+_OF_SAME_PLACE = sa.and_(*(_LATER.c[it] == HISTORY.c[it] for it in ("folder", "file", "member")), _LATER.c.id > HISTORY.c.id)
+_NEXT = sa.select(sa.func.min(_LATER.c.id)).where(_OF_SAME_PLACE).correlate(HISTORY).scalar_subquery()
+_IS_OF_PART = (PARTS.c.path == HISTORY.c.folder) & ((PARTS.c.name == "") | (PARTS.c.name == HISTORY.c.file))
+_FILE = sa.case((PARTS.c.name == "", HISTORY.c.file), else_="")  # as a row of the part has it
+_IS_NOW = (PLACES.c.part == PARTS.c.id) & (PLACES.c.file == _FILE) & (PLACES.c.member == HISTORY.c.member)
+
+
+def _is_same(after: Any) -> Any:
+    """Returns the condition that a row says what the one of the history said. A SHA-256 that older tables did not have is no difference."""
+    same = [after[it].is_not_distinct_from(HISTORY.c[it]) for it in KEPT if it not in ("sha256", "stored")]
+    return sa.and_(*same, (after.sha256 == HISTORY.c.sha256) | after.sha256.is_(None) | HISTORY.c.sha256.is_(None))
+
+
+def compare(engine: sa.engine.Engine) -> None:
+    """Drops from the history what is stored again as it was, and has the stored rows say since when they are so."""
+    while _compare_once(engine):
+        pass
+    with engine.begin() as connection:
+        connection.execute(sa.update(HISTORY).where(IS_NOT_COMPARED).values(is_compared=True))
+
+
+def _compare_once(engine: sa.engine.Engine) -> bool:
+    """Compares the last row of each place, and returns whether any was dropped, so that the one before it is the last now."""
+    columns = (HISTORY.c.id, HISTORY.c.stored, PLACES.c.part, PLACES.c.file, PLACES.c.member)
+    joined = HISTORY.join(PARTS, _IS_OF_PART).join(PLACES, _IS_NOW)
+    asked = sa.select(*columns).select_from(joined).where(IS_NOT_COMPARED, _NEXT.is_(None), _is_same(PLACES.c)).order_by(HISTORY.c.id).limit(TOGETHER)
+    last, any_dropped = 0, False
+    while True:
+        with engine.begin() as connection:
+            same = connection.execute(asked.where(HISTORY.c.id > last)).all()
+            if not same:
+                return any_dropped
+            _put_back(connection, same)
+        last, any_dropped = same[-1].id, True
+
+
+def _put_back(connection: sa.engine.Connection, same: List[Any]) -> None:
+    own = [PLACES.c[it] == sa.bindparam(f"own_{it}") for it in ("part", "file", "member")]
+    since = [{"since": it.stored, **{f"own_{name}": getattr(it, name) for name in ("part", "file", "member")}} for it in same]
+    connection.execute(sa.update(PLACES).where(*own).values(stored=sa.bindparam("since")), since)
+    connection.execute(sa.delete(HISTORY).where(HISTORY.c.id == sa.bindparam("own_id")), [{"own_id": it.id} for it in same])
+
+
+# ---- what is asked of it
+
+
+class Change(str, Enum):
+    """What became of a file, or of what is in it."""
+
+    NEW = "new"
+    GONE = "gone"
+    CHANGED = "changed"
+    STATE = "state"
+
+
+class Row(NamedTuple):
+    """What was stored of a place, or is now."""
+
+    what: str
+    length: int
+    digest: Optional[str]
+    sha256: Optional[str]
+    state: Optional[str]
+    verdict: Optional[str]
+    stored: Optional[int]
+
+    @property
+    def is_good(self) -> bool:
+        """Whether it is a message that fits, and no signature of it is known to be wrong."""
+        return self.state == State.FITS.value and self.verdict != "wrong"
+
+    @property
+    def text(self) -> str:
+        """What it is, as `fits`, with what was found of its signatures if they were verified."""
+        said = self.state or self.what
+        return f"{said}, signatures {self.verdict}" if self.verdict else said
+
+    def is_same(self, other: Row) -> bool:
+        """Whether both say the same. A SHA-256 that older tables did not have is no difference."""
+        is_known = self.sha256 is not None and other.sha256 is not None
+        return self._replace(sha256=None, stored=None) == other._replace(sha256=None, stored=None) and (not is_known or self.sha256 == other.sha256)
+
+
+class Changed(NamedTuple):
+    """What became of a file, or of a message in it."""
+
+    change: Change
+    time: Optional[int]
+    """When that was stored, in seconds since 1970 by the clock of the database."""
+    path: str
+    member: str
+    before: Optional[Row]
+    after: Optional[Row]
+
+    @property
+    def is_worse(self) -> bool:
+        """Whether it was a message that fits, and is none any more."""
+        return self.before is not None and self.before.is_good and not (self.after is not None and self.after.is_good)
+
+    def row(self) -> Dict[str, Any]:
+        """Returns it as a list has it."""
+        before, after = self.before, self.after
+        time = None if self.time is None else datetime.fromtimestamp(self.time, timezone.utc).strftime("%Y-%m-%dT%H:%M:%SZ")
+        return {
+            **{"change": self.change.value, "time": time, "path": self.path, "member": self.member, "is_worse": self.is_worse},
+            **{"before": before and before.text, "after": after and after.text},
+            **{"sha256_before": before and before.sha256, "sha256_after": after and after.sha256},
+        }
+
+
+def changes(store: Store, since: int, under: Optional[str] = None) -> Iterator[Changed]:
+    """Gives what changed since a time, in seconds since 1970: first what is not as it was or is gone, as it was noticed, and then what is new."""
+    yield from _ended(store, since, under)
+    yield from _begun(store, since, under)
+
+
+def _is_below(path: Any, under: Optional[str]) -> Any:
+    return sa.true() if under is None else (path == under) | (sa.func.substr(path, 1, len(under.rstrip("/")) + 1) == under.rstrip("/") + "/")
+
+
+def _ended(store: Store, since: int, under: Optional[str]) -> Iterator[Changed]:
+    path = HISTORY.c.folder.concat(HISTORY.c.file)
+    is_listed = (HISTORY.c.member == "") | (HISTORY.c.what == Class.MESSAGE.value)
+    asked = sa.select(HISTORY).where(HISTORY.c.ended >= since, is_listed, _is_below(path, under)).order_by(HISTORY.c.id)
+    for some in _lists_of(store.asked(asked)):
+        after = _after(store, [row["id"] for row in some])
+        for row in some:
+            before, now = _row(row), after.get(row["id"])
+            if now is None or not before.is_same(now):
+                name = f"{row['folder']}{row['file']}" if row["file"] else row["folder"].rstrip("/") or "/"
+                yield Changed(_change(before, now, row["member"]), row["ended"], name, row["member"], before, now)
+
+
+def _change(before: Row, after: Optional[Row], member: str) -> Change:
+    if after is None:
+        return Change.GONE
+    is_other = (before.length, before.what) != (after.length, after.what) or (before.sha256 or after.sha256) != (after.sha256 or before.sha256)
+    return Change.CHANGED if member == "" and is_other else Change.STATE
+
+
+def _lists_of(rows: Iterator[Dict[str, Any]]) -> Iterator[List[Dict[str, Any]]]:
+    while some := list(islice(rows, ASKED)):
+        yield some
+
+
+def _row(row: Any) -> Row:
+    return Row(*(row[it] for it in Row._fields))
+
+
+def _after(store: Store, ids: List[int]) -> Dict[int, Row]:
+    """Returns what came after each of these rows of the history, or is now; nothing of what is gone."""
+    is_one = HISTORY.c.id.in_(ids)
+    now = sa.select(HISTORY.c.id, *(PLACES.c[it] for it in Row._fields)).select_from(HISTORY.join(PARTS, _IS_OF_PART).join(PLACES, _IS_NOW))
+    later = sa.select(HISTORY.c.id, *(_LATER.c[it] for it in Row._fields)).select_from(HISTORY.join(_LATER, _LATER.c.id == _NEXT))
+    return {row["id"]: _row(row) for asked in (now, later) for row in store.asked(asked.where(is_one))}
+
+
+def _begun(store: Store, since: int, under: Optional[str]) -> Iterator[Changed]:
+    own = (HISTORY.c.folder == PARTS.c.path) & (HISTORY.c.file == PARTS.c.name.concat(PLACES.c.file)) & (HISTORY.c.member == PLACES.c.member)
+    was_there = sa.exists().where(own, HISTORY.c.ended >= since).correlate(PARTS, PLACES)
+    is_listed = (PLACES.c.member == "") | (PLACES.c.what == Class.MESSAGE.value)
+    columns = (PATH.label("path"), PLACES.c.member, *(PLACES.c[it] for it in Row._fields))
+    asked = sa.select(*columns).select_from(PLACES.join(PARTS, PARTS.c.id == PLACES.c.part))
+    for row in store.asked(asked.where(PLACES.c.stored >= since, is_listed, ~was_there, _is_below(PATH, under)).order_by(PATH, PLACES.c.member)):
+        yield Changed(Change.NEW, row["stored"], row["path"], row["member"], None, _row(row))
