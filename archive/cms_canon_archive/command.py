@@ -20,10 +20,12 @@ from .options import PATIENCE, TOGETHER, Options
 if TYPE_CHECKING:
     from .digests import Group
     from .exporting import Copied
+    from .fixity import Line, Manifest
     from .filters import Filters
     from .judging import Verification
     from .queries import Totals
     from .reading import Row
+    from .settings import Settings
     from .store import Store
     from .watching import Watch
 
@@ -39,6 +41,7 @@ _wait = click.option("--wait", type=click.FloatRange(0), metavar="SECONDS", help
 _json = click.option("--json", "form", flag_value="json", help="Write JSON, a line for each.")
 _csv = click.option("--csv", "form", flag_value="csv", help="Write CSV, with a line of names.")
 _FILE = click.Path(exists=True, dir_okay=False, allow_dash=True)
+_FOLDER = click.Path(exists=True, file_okay=False)
 _verify = click.option("--verify", "verifies", is_flag=True, help="Verify signatures by the certificates in the messages, which says nothing of trust.")
 
 
@@ -72,12 +75,18 @@ def _filtered(*options: Callable[..., Any]) -> Callable[[Callable[..., None]], C
     return decorated
 
 
-def _filters_of(given: Dict[str, Any]) -> Filters:
-    from .filters import Filters
+def _text_of_path(path: str) -> str:
+    """Returns a path as a store has it, which need not be there any more."""
     from .texts import path_text_of
 
+    return path_text_of(os.path.realpath(path) if os.path.islink(path) else os.path.abspath(path))
+
+
+def _filters_of(given: Dict[str, Any]) -> Filters:
+    from .filters import Filters
+
     if (under := given.get("under")) is not None:
-        given["under"] = path_text_of(os.path.realpath(under) if os.path.islink(under) else os.path.abspath(under))
+        given["under"] = _text_of_path(under)
     filters = Filters(**given)
     try:
         filters.check()
@@ -216,7 +225,11 @@ _idle_timeout = click.option(
 @_store
 @_wait
 @_verify
+@_certificates
 @click.option("--anew", is_flag=True, help="Read all files, stored or not.")
+@click.option("--exclude", "excluded", multiple=True, metavar="PATTERN", help="Leave out files and folders of such names, or paths if it has a slash, as '*.tmp'.")
+@click.option("--one-file-system", is_flag=True, help="Leave out folders on other file systems than the one above them.")
+@click.option("--manifest", type=click.Path(exists=True, dir_okay=False), metavar="FILE", help="Compare the files with the SHA-256 that FILE lists, as sha256sum or BagIt has it.")
 @click.option("--jobs", type=click.IntRange(0), default=os.cpu_count(), show_default=True, help="Processes of this machine; 0 to wait for `work` elsewhere.")
 @click.option("--scheduler", help="The address of a Dask scheduler, as tcp://HOST:8786, whose workers do the work.")
 @click.option("--send", "sent", type=click.Choice(["paths", "octets"]), default="paths", hidden=True)
@@ -229,7 +242,11 @@ def index_command(
     url: str,
     wait: Optional[float],
     verifies: bool,
+    given: Tuple[str, ...],
     anew: bool,
+    excluded: Tuple[str, ...],
+    one_file_system: bool,
+    manifest: Optional[str],
     jobs: int,
     scheduler: Optional[str],
     sent: str,
@@ -242,8 +259,10 @@ def index_command(
 
     These are the files named, those in folders named, and what is in them: mail, PDF, JAR, ASiC, tar, zip and others, as the manual says. A
     file that is stored as it is now (size, time of change, inode) is not read again. The command may be stopped at any moment, and goes on
-    from there when it is called again. What cannot be read is stored as such, and the status is 3 as long as the index has any.
+    from there when it is called again. What cannot be read is stored as such, and the status is 3 as long as the index has any. It is 1 if
+    anything is otherwise than the manifest says.
     """
+    from .fixity import manifest_in
     from .indexing import Plan, index
     from .opening import is_sqlite, url_of
     from .queries import totals
@@ -259,21 +278,63 @@ def index_command(
         raise click.ClickException("octets are sent to no worker any more: begin `cms-canon-archive work` on a machine that sees the files")
     if (scheduler or not jobs) and is_sqlite(url_of(url)):
         raise click.ClickException("workers elsewhere store in a database that they all reach: name one of PostgreSQL by --store")
+    settings = _settings(given, excluded, one_file_system)
+    listed = _said_wrong(partial(manifest_in, manifest)) if manifest else None
     store = Store(url, makes=True, wait=wait)
     tops = tops_of(filter(is_there, paths))
-    plan = Plan(tops, Options(together, patience), jobs, scheduler, anew, verifies)
+    plan = Plan(tops, Options(together, patience), jobs, scheduler, anew, verifies or bool(given), settings)
     with Bar() as bar:
         done = index(store, plan, line_of, bar.show)
     store = Store(url, wait=wait)
     found = totals(store)
+    differs = listed is not None and _write_differing(store, listed, tops, form)
     store.close()
     if form == "json":
         write([{"read": done.files, "unchanged": done.unchanged, "gone": done.gone, **found._asdict()}], form, ())
-    click.echo(f"{done.files} files read, {done.unchanged} unchanged, {done.gone} gone", err=True)
+    names = f": `cms-canon-archive changes` names {'them' if done.gone > 1 else 'it'}" if done.gone else ""
+    click.echo(f"{done.files} files read, {done.unchanged} unchanged, {done.gone} gone{names}", err=True)
     for line in _lines_of_totals(found):
         click.echo(line, err=True)
     _end_if_missing(paths)
-    sys.exit(3 if found.unreadable else 0)
+    sys.exit(1 if differs else 3 if found.unreadable else 0)
+
+
+def _settings(given: Sequence[str], excluded: Sequence[str], one_file_system: bool) -> Settings:
+    """Returns what an index is told to leave out, and by which certificates it verifies."""
+    from .one_file import certificates_in
+    from .settings import MOST_EXCLUDED, MOST_OCTETS, Settings
+
+    certificates = _said_wrong(lambda: tuple(it for path in given for it in certificates_in(path)))
+    if sum(map(len, certificates)) > MOST_OCTETS:
+        raise click.UsageError(f"--certificates: they have more than {MOST_OCTETS:,} octets")
+    if len(excluded) > MOST_EXCLUDED or "" in excluded:
+        raise click.UsageError(f"--exclude is given at most {MOST_EXCLUDED:,} times, and never empty")
+    return Settings(certificates, tuple(excluded), one_file_system)
+
+
+def _said_wrong(do: Callable[[], _Item]) -> _Item:
+    """Returns what this returns. A complaint about a file that was named ends the command with status 2."""
+    try:
+        return do()
+    except Complaint as why:
+        raise click.UsageError(str(why))
+
+
+def _write_differing(store: Store, manifest: Manifest, tops: Sequence[str], form: Optional[str]) -> bool:
+    """Writes in what a manifest and an index differ, and returns whether they do."""
+    from .fixity import differing
+    from .writing import write
+
+    differs = False
+
+    def rows() -> Iterator[Dict[str, Any]]:
+        nonlocal differs
+        for it in differing(store, manifest, tops):
+            differs = True
+            yield {"why": it.why, "file": it.path}
+
+    write(rows(), form, ("why", "file"))
+    return differs
 
 
 def _lines_of_totals(found: Totals) -> Iterator[str]:
@@ -416,6 +477,7 @@ def load_command(url: str, wait: Optional[float]) -> None:
 @click.argument("document", required=False, type=_FILE)
 @click.option("--all", "all_of_them", is_flag=True, help="List the messages that fit and break no rule too, and those that nobody signed.")
 @click.option("--noted", is_flag=True, help="List only the messages that fit with a note.")
+@click.option("--content-in", "folders", multiple=True, type=_FOLDER, metavar="FOLDER", help="Look in this folder for what a signature covers that is not beside it, by the digest.")
 @_filtered(*_FILTERS, *_ORDER)
 @_verify
 @_certificates
@@ -428,6 +490,7 @@ def check_command(
     document: Optional[str],
     all_of_them: bool,
     noted: bool,
+    folders: Tuple[str, ...],
     filters: Filters,
     verifies: bool,
     given: Tuple[str, ...],
@@ -446,10 +509,12 @@ def check_command(
     if file is not None:
         if all_of_them or noted or any(it is not None for it in filters):
             raise click.UsageError("--all, --noted and what chooses among rows are for the messages of the index, and not for FILE")
-        sys.exit(_check_file(file, document, _verification(verifies, given), form))
+        sys.exit(_check_file(file, document, _verification(verifies, given), form, folders))
     if verifies or given:
         raise click.UsageError("--verify and --certificates are for FILE; those of the index are verified by `index --verify`")
-    from . import queries
+    if noted and folders:
+        raise click.UsageError("--noted lists messages that fit, so that --content-in finds nothing for them")
+    from . import queries, rechecking
     from .containers.found import State
     from .store import Store
     from .writing import write
@@ -460,7 +525,7 @@ def check_command(
         nonlocal differs
         store = Store(url, wait=wait)
         is_any = all_of_them or filters.state is not None
-        for row in _with_name(queries.noted(store, filters) if noted else queries.checked(store, is_any, filters)):
+        for row in _with_name(queries.noted(store, filters) if noted else rechecking.checked_in(store, folders, is_any, filters)):
             differs = differs or row["state"] == State.DIFFERS.value or row["verdict"] == "wrong" or row["wrong_times"] > 0
             yield row
 
@@ -477,7 +542,7 @@ def _verification(verifies: bool, given: Sequence[str]) -> Verification:
         raise click.UsageError(str(why))
 
 
-def _check_file(file: str, document: Optional[str], how: Verification, form: Optional[str]) -> int:
+def _check_file(file: str, document: Optional[str], how: Verification, form: Optional[str], folders: Sequence[str]) -> int:
     """Says whether the messages in a file fit what they sign, and returns the status."""
     from .one_file import judged_in, lines_of, worst
     from .reading import read_of, row_in_file
@@ -487,7 +552,7 @@ def _check_file(file: str, document: Optional[str], how: Verification, form: Opt
 
     outcomes = []
     with _given(file, document) as (path, other, progress):
-        messages = _each(judged_in(path, other, how, progress), lambda it: outcomes.append(it.outcome))
+        messages = _each(judged_in(path, other, how, progress, form is not None, folders), lambda it: outcomes.append(it.outcome))
         if form is not None:
             rows = ({"path": file, **row_in_file(read_of(entry_of(path), it.found, it.facts, how))} for it in messages)
             write(_with_name(rows), form, ("state", "findings", "verdict", "note", "file"))
@@ -550,7 +615,7 @@ def inspect_command(file: str, document: Optional[str], verifies: bool, given: T
     count, how = 0, _verification(verifies, given)
     with _given(file, document) as (path, other, progress):
         if form == "json":
-            for it in judged_in(path, other, how, progress):
+            for it in judged_in(path, other, how, progress, digests=True):
                 write([{"path": file, **row_in_file(read_of(entry_of(path), it.found, it.facts, how))}], form, ())
                 count += it.facts.digest is not None
         else:
@@ -849,6 +914,79 @@ def export_command(folder: Path, url: str, wait: Optional[float], form: Optional
         elif copied.why_not is not None:
             click.echo(f"{shown(copied.name)}: {copied.why_not}", err=True)
     sys.exit(1 if failed else 0)
+
+
+@main.command("manifest")
+@click.option("--sha256sum", "is_sha256sum", is_flag=True, help="Write the lines that `sha256sum -c` reads, with whole paths.")
+@click.option("--bagit", "is_bagit", is_flag=True, help="Write manifest-sha256.txt of the bag that --under names.")
+@click.option("--under", metavar="PATH", help="Only this file, or what is in this folder.")
+@_store
+@_wait
+def manifest_command(is_sha256sum: bool, is_bagit: bool, under: Optional[str], url: str, wait: Optional[float]) -> None:
+    """Write the SHA-256 of the files of the index, as it read them.
+
+    The status is 1 if a file has to be left out, for which there is a line: one that could not be read, or whose name was cut.
+    """
+    from . import fixity
+    from .store import Store
+
+    if is_sha256sum == is_bagit:
+        raise click.UsageError("say one of --sha256sum and --bagit")
+    if is_bagit and under is None:
+        raise click.UsageError("--bagit is for the bag that --under names")
+    store, place = Store(url, wait=wait), None if under is None else _text_of_path(under)
+    lines = fixity.bagit(store, place) if is_bagit and place is not None else fixity.sha256sum(store, place)
+    sys.exit(0 if _said_wrong(lambda: _write_lines(lines)) else 1)
+
+
+def _write_lines(lines: Iterable[Line]) -> bool:
+    """Writes the lines of a manifest, and returns whether no file was left out."""
+    from .texts import shown
+
+    is_whole = True
+    for it in lines:
+        if it.why_not is None:
+            sys.stdout.buffer.write(it.octets)
+        else:
+            is_whole = False
+            click.echo(f"{shown(it.octets.decode('utf-8', 'replace'))}: {it.why_not}", err=True)
+    return is_whole
+
+
+@main.command("changes")
+@click.option("--since", metavar="TIME", help="The time, in UTC, as 2024-02-29 or 2024-02-29T12:00.  [default: when the last index began]")
+@click.option("--under", metavar="PATH", help="Only this file, or what is in this folder.")
+@_ORDER[1]
+@_store
+@_wait
+@_json
+@_csv
+def changes_command(since: Optional[str], under: Optional[str], limit: Optional[int], url: str, wait: Optional[float], form: Optional[str]) -> None:
+    """List what changed: files that are new, gone or changed, and messages that are in another state.
+
+    The status is 1 if any message that fitted does not fit any more, or is gone, whether it is listed or not.
+    """
+    from .history import BEGAN, changes, time_in
+    from .store import Store
+    from .writing import write
+
+    store = Store(url, wait=wait)
+    try:
+        begin = int(store.about().get(BEGAN, "0")) if since is None else time_in(since)
+    except ValueError as why:
+        raise click.UsageError(str(why))
+    is_worse, left = False, limit
+
+    def rows() -> Iterator[Dict[str, Any]]:
+        nonlocal is_worse, left
+        for it in changes(store, begin, None if under is None else _text_of_path(under)):
+            is_worse = is_worse or it.is_worse
+            if left is None or left > 0:
+                left = None if left is None else left - 1
+                yield it.row()
+
+    write(_with_name(rows()), form, ("change", "time", "before", "after", "file"))
+    sys.exit(1 if is_worse else 0)
 
 
 @main.command("verify-store")

@@ -4,7 +4,7 @@ from __future__ import annotations
 
 import os
 import re
-from typing import Dict, Iterator, List, NamedTuple, Optional, Tuple
+from typing import Dict, Iterator, NamedTuple, Optional, Sequence, Tuple
 
 import sqlalchemy as sa
 
@@ -15,11 +15,10 @@ from .store import FILES, Store
 from .texts import is_cut, name_of_text, path_text_of
 
 MOST = 1 << 30  # octets of a manifest that is compared: its names are in memory
-_LINE = re.compile(rb"(\\?)([0-9a-fA-F]{64}) [ *]?(.+)", re.DOTALL)
+_LINE = re.compile(rb"(\\?)([0-9a-fA-F]{64})(?: [ *]?|\t)(.+)", re.DOTALL)
 _TAGGED = re.compile(rb"(\\?)SHA256 \((.+)\) = ([0-9a-fA-F]{64})", re.DOTALL)
 _ESCAPES = {b"\\\\": b"\\", b"\\n": b"\n", b"\\r": b"\r"}
 _OF_BAG = {b"%25": b"%", b"%0A": b"\n", b"%0a": b"\n", b"%0D": b"\r", b"%0d": b"\r"}
-PAYLOAD = b"data/"  # the folder of a bag with the files that it is for (RFC 8493, section 2.1.2)
 NOT_KNOWN = "its SHA-256 is not known: it cannot be read, was changed as it was read, or was stored by an older release; `index` reads it again"
 CUT = "its name is too long to be read back"
 
@@ -88,8 +87,14 @@ class Manifest(NamedTuple):
     """What a manifest says: the SHA-256 of each file by the text of its path."""
 
     digests: Dict[str, bytes]
-    folder: str
-    """The folder in which the manifest lies, which its names are relative to."""
+    path: str
+    """The text of its own path, which it need not list."""
+    payload: Optional[str]
+    """The folder with all that it has to list, if it is that of a bag."""
+
+    def is_to_list(self, path: str) -> bool:
+        """Whether a file of this path has to be listed."""
+        return path != self.path and (self.payload is None or path.startswith(self.payload))
 
 
 def manifest_in(path: str) -> Manifest:
@@ -112,7 +117,8 @@ def manifest_in(path: str) -> Manifest:
             raise Complaint(f"{path}: line {number}: this file has another SHA-256 in an earlier line")
     if not digests:
         raise Complaint(f"{path}: it lists no file")
-    return Manifest(digests, folder)
+    own = path_text_of(os.path.join(folder, os.path.basename(path)))
+    return Manifest(digests, own, path_text_of(os.path.join(folder, "data")) + "/" if is_of_bag else None)
 
 
 def _read(line: bytes, is_of_bag: bool, where: str) -> Tuple[bytes, bytes]:
@@ -126,7 +132,7 @@ def _read(line: bytes, is_of_bag: bool, where: str) -> Tuple[bytes, bytes]:
     if escaped:
         name = re.sub(rb"\\[\\nr]", lambda it: _ESCAPES[it[0]], name)
     if is_of_bag:
-        name = re.sub(rb"%(?:25|0[AaDd])", lambda it: _OF_BAG[it[0]], name.lstrip(b" "))
+        name = re.sub(rb"%(?:25|0[AaDd])", lambda it: _OF_BAG[it[0]], name.lstrip(b" \t*"))
     return name, bytes.fromhex(digest.decode())
 
 
@@ -137,7 +143,7 @@ class Difference(NamedTuple):
     path: str
 
 
-def differing(store: Store, manifest: Manifest, tops: List[str]) -> Iterator[Difference]:
+def differing(store: Store, manifest: Manifest, tops: Sequence[str]) -> Iterator[Difference]:
     """Gives what differs between a manifest and the files of an index that lie in paths which were named: files with another SHA-256, or with none,
     files that are missing, and files that are not listed. The manifest itself need not be."""
     left = dict(manifest.digests)
@@ -145,11 +151,10 @@ def differing(store: Store, manifest: Manifest, tops: List[str]) -> Iterator[Dif
         for row in _rows(store, path_text_of(top)):
             path = str(row["path"])
             wanted = left.pop(path, None)
-            if wanted is None:
+            if wanted is None and manifest.is_to_list(path):
                 yield Difference("not listed", path)
-            elif row["sha256"] is None:
+            elif wanted is not None and row["sha256"] is None:
                 yield Difference("not known", path)
-            elif bytes.fromhex(str(row["sha256"])) != wanted:
+            elif wanted is not None and bytes.fromhex(str(row["sha256"])) != wanted:
                 yield Difference("differs", path)
-    for path in sorted(left):
-        yield Difference("missing", path)
+    yield from (Difference("missing", path) for path in sorted(left))

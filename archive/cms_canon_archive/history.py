@@ -6,6 +6,7 @@ the history when an index ends; until then it is not told apart, since the files
 
 from __future__ import annotations
 
+import re
 from datetime import datetime, timezone
 from enum import Enum
 from itertools import islice
@@ -98,6 +99,20 @@ def _put_back(connection: sa.engine.Connection, same: List[Any]) -> None:
 
 
 # ---- what is asked of it
+
+
+_TIME = re.compile(r"[0-9]{4}-[0-9]{2}-[0-9]{2}(?:T[0-9]{2}:[0-9]{2}(?::[0-9]{2})?Z?)?")
+
+
+def time_in(text: str) -> int:
+    """Returns the seconds since 1970 of a time in UTC, as 2024-02-29 or 2024-02-29T12:00:00. Raises `ValueError` with a line if it is none."""
+    wrong = ValueError(f"--since is a time in UTC as 2024-02-29, 2024-02-29T12:00 or 2024-02-29T12:00:00, and not {text}")
+    if not _TIME.fullmatch(text):
+        raise wrong
+    try:
+        return int(datetime.fromisoformat(text.rstrip("Z")).replace(tzinfo=timezone.utc).timestamp())
+    except (ValueError, OverflowError):
+        raise wrong from None
 
 
 class Change(str, Enum):

@@ -244,6 +244,11 @@ def _certificates_of(facts: _facts.Facts) -> List[_Certificate]:
 _NAMES_OF_OIDS = {**_SIGNATURES, **_DIGESTS, **NAMES}
 
 
+def hash_named(name: str) -> Optional[str]:
+    """Returns what hashlib calls a digest algorithm that is named so; None if it does not know it."""
+    return _HASHES.get(name)
+
+
 def name_of_oid(oid: str) -> str:
     return _NAMES_OF_OIDS.get(oid, oid)
 

@@ -10,8 +10,9 @@ from contextlib import contextmanager, suppress
 from dataclasses import replace
 from enum import IntEnum
 from pathlib import Path
-from typing import Callable, Iterable, Iterator, List, NamedTuple, Optional, Sequence
+from typing import Callable, Dict, Iterable, Iterator, List, NamedTuple, Optional, Sequence, Set
 
+from . import elsewhere
 from .containers.armour import blocks_of
 from .containers.files import beside
 from .containers.found import Class, Found, Octets, State
@@ -98,12 +99,12 @@ def _with_document(found: Found, document: str, progress: Progress) -> Found:
     return found.with_content(replace(content, pieces=_Watched(content.pieces, progress)))
 
 
-def messages_in(path: str, document: Optional[str], progress: Progress) -> Iterator[Found]:
-    """Gives the messages in a file with what they sign, and what cannot be read or is damaged.
+def messages_in(path: str, document: Optional[str], progress: Progress, digests: bool = False) -> Iterator[Found]:
+    """Gives the messages in a file with what they sign, and what cannot be read or is damaged, and the file itself with its SHA-256 if that is wanted.
 
     A document is for the one message that the file is. Raises `Complaint` if it is a file with messages in it.
     """
-    for found in found_in_entry(entry_of(os.path.realpath(path))):
+    for found in found_in_entry(entry_of(os.path.realpath(path)), digests):
         if document is not None and found.where:
             raise Complaint("a document is compared with the one message that a file is, and this file has messages in it")
         if found.what not in _OF_NO_MESSAGE or found.note:
@@ -113,11 +114,12 @@ def messages_in(path: str, document: Optional[str], progress: Progress) -> Itera
 def verification(verifies: bool, paths: Sequence[str]) -> Verification:
     """Returns how signatures are verified, by the certificates in files and in the files of folders. Raises `Complaint` if a path has none."""
     if paths:
-        return verification_by([it for path in paths for it in _certificates_in(path)])
+        return verification_by([it for path in paths for it in certificates_in(path)])
     return BY_MESSAGE if verifies else NOT_VERIFIED
 
 
-def _certificates_in(path: str) -> List[bytes]:
+def certificates_in(path: str) -> List[bytes]:
+    """Returns the certificates in a file, or in the files of a folder, in DER. Raises `Complaint` if there is none."""
     files = sorted(Path(path).iterdir()) if os.path.isdir(path) else [Path(path)]
     found = [it for file in files if file.is_file() for it in _certificates_of(_read(file))]
     if not found:
@@ -143,10 +145,35 @@ def _certificates_of(octets: bytes) -> Iterator[bytes]:
             yield it
 
 
-def judged_in(path: str, document: Optional[str], how: Verification, progress: Progress) -> Iterator[Judged]:
-    """Judges the messages in a file."""
-    for found in messages_in(path, document, progress):
-        yield Judged(found, judged_or_not(found, how))
+def judged_in(
+    path: str, document: Optional[str], how: Verification, progress: Progress, digests: bool = False, folders: Sequence[str] = ()
+) -> Iterator[Judged]:
+    """Judges the messages in a file. Last come those whose content was not found in it or beside it, but by the digest elsewhere: among the files beside
+    it with the same name but for the ending, and in these folders."""
+    wanted: Dict[str, Set[elsewhere.Digest]] = {}
+    for found in messages_in(path, document, progress, digests):
+        judged = Judged(found, judged_or_not(found, how))
+        if document is None and (some := elsewhere.wanted_by(judged.facts)):
+            wanted[found.where] = some
+        else:
+            yield judged
+    if wanted:
+        yield from _found_elsewhere(path, wanted, how, progress, digests, folders)
+
+
+def _found_elsewhere(
+    path: str, wanted: Dict[str, Set[elsewhere.Digest]], how: Verification, progress: Progress, digests: bool, folders: Sequence[str]
+) -> Iterator[Judged]:
+    every = set().union(*wanted.values())
+    contents = elsewhere.search((*elsewhere.of_same_name(path), *(file for folder in folders for file in elsewhere.files_in(folder))), every)
+    for found in messages_in(path, None, progress, digests):
+        for content in (contents[it] for it in sorted(wanted.get(found.where, ())) if it in contents):
+            if (judged := elsewhere.with_content(found, content, how)) is not None:
+                yield Judged(*judged)
+                break
+        else:
+            if found.where in wanted:
+                yield Judged(found, judged_or_not(found, how))
 
 
 def lines_of(judged: Judged, how: Verification) -> Iterator[str]:

@@ -9,6 +9,7 @@ process which reads them, and lines that are cut.
 
 import importlib.util
 import os
+import re
 import shlex
 import shutil
 import signal
@@ -40,6 +41,7 @@ SEED = 5652
 FILES = 2000
 KILLS = 10
 DAMAGED = 100  # of each kind
+STORED = re.compile(r'"stored": [0-9]+, ')
 LARGE = 3 << 20  # octets of the content of one message
 SIGNED = ("signature", "certificates", "token")  # the kinds of a message with SignedData
 LONG = "".join(sha256(b"%d" % number).hexdigest() for number in range(40))
@@ -417,5 +419,5 @@ def test_postgresql(home, files, server, made):
     count("PostgreSQL, again", differs_from(files, store_of(url)) or ("" if said.startswith("0 files read, ") else f"it says {said}"))
     for words in ("duplicates --json", "refusals --json", "changed --json", *(["report --html -"] if has_reports else [])):
         texts = [command(home, *words.split(), "--store", it) for it in (url, made.url)]
-        own, others = (sorted(it for it in text.splitlines() if "index.db" not in it and "postgres" not in it) for text in texts)
+        own, others = (sorted(STORED.sub("", it) for it in text.splitlines() if "index.db" not in it and "postgres" not in it) for text in texts)
         count_if(f"PostgreSQL, {words.split()[0]}", own == others, "other than SQLite")

@@ -138,9 +138,9 @@ def test_many_at_a_time(archive, make, home):
 
     entries = [archive.walking.entry_of(path) for path in files_of(make, home)]
     wrong, together = [], 0
-    for verifies in (False, True):
-        for entry, read in zip(entries, reads_together(entries, verifies)):
-            each = list(archive.reading.reads_of(entry, verifies))
+    for how in (archive.judging.NOT_VERIFIED, archive.judging.BY_MESSAGE):
+        for entry, read in zip(entries, reads_together(entries, how)):
+            each = list(archive.reading.reads_of(entry, how))
             together += read is not None
             if read is not None and (len(each) != 1 or without_time(read) != without_time(each[0])):
                 wrong.append(f"{entry.path}: {read} and not {each}"[:1000])
@@ -226,7 +226,7 @@ def test_long_texts(archive, home, make):
 def test_columns(archive):
     """What is read has the columns of the tables, in their order."""
     tables, reading, judging = archive.tables, archive.reading, archive.judging
-    places = [it.name for it in tables.PLACES.columns]
+    places = [it.name for it in tables.sent_columns(tables.PLACES)]
     count_same("columns of places", ["part", "file", *reading.Place._fields, "worker"], places)
     for table, kind in ((tables.PLACE_SIGNERS, judging.Signer), (tables.PLACE_TIMES, judging.Time)):
         count_same(f"columns of {table.name}", ["part", "file", "member", *kind._fields], [it.name for it in table.columns])

@@ -173,7 +173,8 @@ def rows_of(archive, folder, name, octets, verifies=False, **beside):
     """Returns the rows of a file with others beside it, by their places."""
     write_files(folder, {name: octets, **beside})
     entry = archive.walking.entry_of(str(folder / name))
-    return {row["member"]: row for row in (archive.reading.row_of(entry, found, verifies) for found in archive.reading.found_in_entry(entry))}
+    how = archive.judging.Verification(verifies)
+    return {row["member"]: row for row in (archive.reading.row_of(entry, found, how) for found in archive.reading.found_in_entry(entry))}
 
 
 def requests_of(make):
@@ -284,7 +285,7 @@ def test_changed_just_before(home, archive, make):
     entry = archive.walking.entry_of(str(folder / "doc.p7s"))
     settled = {}
     for name, changed, beside in (("now", time.time_ns(), 0), ("long ago", 1, 1), ("the content now", 1, time.time_ns())):
-        found = archive.reading.unread(entry, "any")
+        found = archive.reading.unread(entry, "any")._replace(sha256=bytes(32))
         read = archive.reading.read_of(entry._replace(changed=changed, beside=f"1:{beside}:1"), found, archive.judging.judged(found))
         settled[name] = read.place.is_settled
     count_same("what changed just before", settled, {"now": False, "long ago": True, "the content now": False})
@@ -339,10 +340,10 @@ def test_old_stores(home, folder):
     count_same("a store of 0.4.0 that is asked", came, {"doc.bin.p7s": None, "doc.tst": None})
     command(home, "index", folder, "--store", old, status=3)
     count_same("a store of 0.4.0 that is indexed", of_first(old), FIRST_STORE_SAYS)
-    asked(old, "UPDATE about SET value = '5' WHERE name = 'schema'")
+    asked(old, "UPDATE about SET value = '6' WHERE name = 'schema'")
     for words in (("check",), ("index", folder)):
         said = command_says(home, *words, "--store", old, status=1)
-        count_if(f"a newer store, {words[0]}", is_line(said, "tables of version 5"), said)
+        count_if(f"a newer store, {words[0]}", is_line(said, "tables of version 6"), said)
     asked(old, "UPDATE about SET value = 'many' WHERE name = 'schema'")
     said = command_says(home, "check", "--store", old, status=1)
     count_same("a version that is no number", said, "Error: the store says a version of its tables that is no number\n")

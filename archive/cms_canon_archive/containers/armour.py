@@ -3,6 +3,7 @@
 from __future__ import annotations
 
 import binascii
+import os
 import re
 import string
 from base64 import b64decode
@@ -13,7 +14,10 @@ import cms_canon
 from .found import Class, Found
 from .sources import Budget, Source
 
-ENDINGS = (".p7s", ".p7m", ".sig", ".tsr", ".tst")  # of a file that signs or stamps the one with the rest of its name
+ENDINGS = (  # of a file that signs or stamps the one with the rest of its name
+    *(".p7s", ".p7m", ".p7b", ".pkcs7", ".cms", ".sgn", ".sig", ".asc"),
+    *(".tsr", ".tst"),
+)
 SIGNED = (b"CMS", b"PKCS7", b"PKCS #7 SIGNED DATA", b"SIGNED MESSAGE")  # the last is of gpgsm
 MARK = b"\xef\xbb\xbf"  # that some programs write before a text in UTF-8
 OPENPGP = b"PGP "  # the labels of OpenPGP begin so
@@ -33,7 +37,8 @@ class Block(NamedTuple):
 
 def wanted_by(name: str) -> Optional[str]:
     """Returns the name of the file that one of this name signs or stamps; None if that is not in its name."""
-    return name[:-4] if name.lower().endswith(ENDINGS) and len(name) > 4 else None
+    stem, ending = os.path.splitext(name)
+    return stem if stem and ending.lower() in ENDINGS else None
 
 
 def _blocks_of(octets: bytes, budget: Budget) -> Iterator[Block]:

@@ -66,7 +66,11 @@ def asked(store, statement):
 
 
 def store_of(store):
-    return asked(store, "SELECT * FROM files ORDER BY path, member")
+    """Returns the files of a store, but for when they were stored."""
+    from cms_canon_archive.tables import FILES, shown
+
+    columns = ", ".join(f'"{it.name}"' for it in shown(FILES) if it.name != "stored")
+    return asked(store, f"SELECT {columns} FROM files ORDER BY path, member")
 
 
 def found_in(store, statement):
