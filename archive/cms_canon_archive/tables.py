@@ -22,7 +22,7 @@ from cms_canon._texts import REFUSALS
 from .containers.found import Class, State
 from .texts import LONGEST
 
-SCHEMA = 5  # the version of the tables: 1 of releases up to 0.8.0, which say no version, 2 of 0.9.0, 3 of 0.10.0 to 0.17.0, and 4 of 0.18.0 to 0.24.0
+SCHEMA = 5  # the version of the tables: 1 of releases up to 0.8.0, which say no version, 2 of 0.9.0, 3 of 0.10.0 to 0.17.0, and 4 of 0.18.0 to 0.23.0
 MOST_CHUNKS = 16  # of a folder: each lists all of it
 MOST_TRIED = 1000  # times that a part was taken, as they are counted
 MOST_OF_A_KEY = LONGEST + 68  # octets of a name, with what is said at its end if it was cut
