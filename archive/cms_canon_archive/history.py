@@ -232,5 +232,6 @@ def _begun(store: Store, since: int, under: Optional[str]) -> Iterator[Changed]:
     is_listed = (PLACES.c.member == "") | (PLACES.c.what == Class.MESSAGE.value)
     columns = (PATH.label("path"), PLACES.c.member, *(PLACES.c[it] for it in Row._fields))
     asked = sa.select(*columns).select_from(PLACES.join(PARTS, PARTS.c.id == PLACES.c.part))
-    for row in store.asked(asked.where(PLACES.c.stored >= since, is_listed, ~was_there, _is_below(PATH, under)).order_by(PATH, PLACES.c.member)):
+    order = (PLACES.c.part, PLACES.c.file, PLACES.c.member)  # in which they are stored: to sort a million paths takes longer than all else
+    for row in store.asked(asked.where(PLACES.c.stored >= since, is_listed, ~was_there, _is_below(PATH, under)).order_by(*order)):
         yield Changed(Change.NEW, row["stored"], row["path"], row["member"], None, _row(row))
