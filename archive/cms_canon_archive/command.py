@@ -154,10 +154,11 @@ def _with_name(rows: Iterable[Row]) -> Iterator[Dict[str, Any]]:
         yield {"file": name_of(row), **row}
 
 
-def _with_why(row: Dict[str, Any]) -> Dict[str, Any]:
-    """Adds the refusal as the command `cms-canon` says it, or why it cannot be read."""
-    why = row["error"] if row["reason"] is None else "E{reason} {name} at {at}".format(**row)
-    return {**row, "why": f"{row['what']}: {why}" if row["reason"] is None else why}
+def _with_why(form: Optional[str], row: Dict[str, Any]) -> Dict[str, Any]:
+    """Adds the refusal as the command `cms-canon` says it, or why it cannot be read, which a table does not say again in the note."""
+    if row["reason"] is not None:
+        return {**row, "why": "E{reason} {name} at {at}".format(**row)}
+    return {**row, "why": f"{row['what']}: {row['error']}", "note": row["note"] if form == "json" else ""}
 
 
 # ---- index
@@ -731,13 +732,13 @@ def _write_shared(groups: Iterable[Group], form: Optional[str]) -> None:
 def refusals_command(filters: Filters, url: str, wait: Optional[float], form: Optional[str]) -> None:
     """List what is refused, damaged, too large, or cannot be read.
 
-    `cms-canon help convert` says what the reasons mean, and what to do.
+    Of what is refused it is said what it is, as a certificate or a key, if that is known. `cms-canon help convert` says what the reasons mean, and what to do.
     """
     from .queries import refusals
     from .store import Store
     from .writing import write
 
-    write(map(_with_why, _with_name(refusals(Store(url, wait=wait), filters))), form, ("why", "file"))
+    write(map(partial(_with_why, form), _with_name(refusals(Store(url, wait=wait), filters))), form, ("why", "note", "file"))
 
 
 @main.command("changed")

@@ -23,6 +23,7 @@ from cms_canon._rows import dotted
 
 from .containers.found import GOOD, Class, Content, Found, State, digest_of
 from .containers.packed import why_of
+from .containers.refused import named
 from .containers.sources import Ended
 from .texts import text_of
 
@@ -584,4 +585,4 @@ def judged(found: Found, verifies: bool = False, certificates: Sequence[bytes] =
         unread = Content(where, 0, (), State.UNREADABLE, f"{where}: {why_of(why)}")
         return judged(found.with_content(unread), verifies, certificates)
     except cms_canon.Refused as refused:
-        return Facts(Class.REFUSED, note=_note_of(found), reason=refused.reason, name=refused.name, at=refused.at)
+        return Facts(Class.REFUSED, note=_joined(_note_of(found), named(found.octets)), reason=refused.reason, name=refused.name, at=refused.at)

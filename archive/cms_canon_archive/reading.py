@@ -24,7 +24,7 @@ from .texts import LONGEST, cut, path_text_of, text_of
 Row = Dict[str, Any]  # of a store, or a line of `rows`
 Values = Tuple[Any, ...]
 
-READER = 5  # raised with each change of the command or the library by which a file would get other rows, and with no other
+READER = 6  # raised with each change of the command or the library by which a file would get other rows, and with no other
 MOST = (1 << 63) - 1  # the largest number that a store takes
 NO_PATH = "no path is named so"
 TOO_LONG = "its name is too long to be read back"
