@@ -21,6 +21,7 @@ from cms_canon._facts import facts_of, token_facts_of
 from cms_canon._names import NAMES
 from cms_canon._rows import dotted
 
+from .certificate_texts import dates_of, name_text
 from .containers.found import GOOD, Class, Content, Found, State, digest_of
 from .containers.packed import why_of
 from .containers.refused import named
@@ -185,8 +186,7 @@ def _read_certificate(octets: bytes) -> Optional[_Certificate]:
         with warnings.catch_warnings():
             warnings.simplefilter("ignore")  # of what a certificate should not have
             read = x509.load_der_x509_certificate(octets)
-        names = text_of(read.issuer.rfc4514_string()), text_of(read.subject.rfc4514_string())
-        times = read.not_valid_before.isoformat() + "Z", read.not_valid_after.isoformat() + "Z"
+        names, times = (text_of(name_text(read.issuer)), text_of(name_text(read.subject))), dates_of(read)
         found = found._replace(issuer_text=names[0], subject=names[1], not_before=times[0], not_after=times[1])
         found = found._replace(signature=text_of(_signature_of(read)))
         key, bits = _key_of(read)
