@@ -24,7 +24,8 @@ def rows(shared_home, make):
     message = make.run("openssl cms -sign -binary -nodetach -signer named.pem -inkey named.key -outform DER", octets=b"content")
     folder = write_files(shared_home / "named", {"named.p7m": message})
     ran(shared_home, "index", folder, "--jobs", 1, "--store", "named.db")
-    return lines_of(shared_home, "signers", "--store", "named.db"), make.run("openssl x509 -in named.pem -noout -subject -nameopt RFC2253,-sname,lname").decode()
+    said = make.run("openssl x509 -in named.pem -noout -subject -nameopt RFC2253,-sname,lname").decode()
+    return lines_of(shared_home, "signers", "--store", "named.db"), said
 
 
 def test_names(rows):
