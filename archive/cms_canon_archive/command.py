@@ -39,12 +39,13 @@ _wait = click.option("--wait", type=click.FloatRange(0), metavar="SECONDS", help
 _json = click.option("--json", "form", flag_value="json", help="Write JSON, a line for each.")
 _csv = click.option("--csv", "form", flag_value="csv", help="Write CSV, with a line of names.")
 _FILE = click.Path(exists=True, dir_okay=False, allow_dash=True)
+_ANY_PATH = click.Path(readable=False)  # which shells complete, and of which nothing is asked
 _verify = click.option("--verify", "verifies", is_flag=True, help="Verify signatures by the certificates in the messages, which says nothing of trust.")
 
 
 _FILTERS = (
     click.option("--state", metavar="STATE", help="Only messages in this state, as 'does not fit', which the manual lists."),
-    click.option("--under", metavar="PATH", help="Only this file, or what is in this folder."),
+    click.option("--under", type=_ANY_PATH, metavar="PATH", help="Only this file, or what is in this folder."),
     click.option("--signer", metavar="TEXT", help="Only messages with TEXT in the name of a signer or of its issuer."),
     click.option("--algorithm", metavar="NAME", help="Only what uses this algorithm or key, as sha1 or RSA."),
     click.option("--since", metavar="TIME", help="Only what was signed or time-stamped from then on, in UTC: 2024, 2024-02 or 2024-02-29."),
@@ -213,7 +214,7 @@ _idle_timeout = click.option(
 
 
 @main.command("index")
-@click.argument("paths", nargs=-1, required=True)
+@click.argument("paths", nargs=-1, required=True, type=_ANY_PATH)
 @_store
 @_wait
 @_verify
@@ -366,7 +367,7 @@ def progress_command(url: str, wait: Optional[float], form: Optional[str]) -> No
 
 
 @main.command("rows")
-@click.argument("paths", nargs=-1)
+@click.argument("paths", nargs=-1, type=_ANY_PATH)
 @_verify
 def rows_command(paths: Tuple[str, ...], verifies: bool) -> None:
     """Write what each file is, in lines of JSON.

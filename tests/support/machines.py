@@ -200,7 +200,8 @@ class Debian:
     def _debootstrap(self, base: Path) -> None:
         folder, new = self.root.with_name("base"), base.with_suffix(".new")
         of_other = [f"--arch={self.architecture}"] if self.architecture else []
-        succeed(["debootstrap", *of_other, "--variant=minbase", "--include=sudo,ca-certificates", self.suite, folder, mirror()], "debootstrap", timeout=self.seconds)
+        words = ["debootstrap", *of_other, "--variant=minbase", "--include=sudo,ca-certificates", self.suite, folder, mirror()]
+        succeed(words, "debootstrap", timeout=self.seconds)
         shutil.rmtree(folder / "var/cache/apt/archives", ignore_errors=True)
         (folder / "var/cache/apt/archives/partial").mkdir(parents=True)
         succeed(["tar", "--numeric-owner", "-cf", new, "-C", folder, "."], "the base cannot be kept")
