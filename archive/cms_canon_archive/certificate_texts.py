@@ -32,12 +32,12 @@ def name_text(name: x509.Name) -> str:
     return str(name.rfc4514_string(_names_of_types()))
 
 
-def _time_text(time: datetime) -> str:
+def _date_of(certificate: x509.Certificate, name: str) -> str:
+    with_zone = f"{name}_utc"  # which `cryptography` has from 42 on, and then it warns of that without a zone
+    time: datetime = getattr(certificate, with_zone if hasattr(certificate, with_zone) else name)
     return f"{time.replace(tzinfo=None).isoformat()}Z"
 
 
 def dates_of(certificate: x509.Certificate) -> Tuple[str, str]:
     """Returns the first and the last moment at which a certificate is valid, in UTC, as `2024-02-29T12:00:00Z`."""
-    if hasattr(certificate, "not_valid_before_utc"):  # from cryptography 42 on, which warns of the others
-        return _time_text(certificate.not_valid_before_utc), _time_text(certificate.not_valid_after_utc)
-    return _time_text(certificate.not_valid_before), _time_text(certificate.not_valid_after)
+    return _date_of(certificate, "not_valid_before"), _date_of(certificate, "not_valid_after")
