@@ -4,8 +4,7 @@ It is checked that
 
 - every file is there, with the contents and the mode that it has to have, and with the version that the program prints;
 - the installed program converts, and so does a program in C that is linked to the installed library, shared and static;
-- the manual pages are formatted without warnings, in 80 columns, and that of the command has every refusal and finding of
-  docs/FORMATS.md;
+- the manual page is formatted without warnings, in 80 columns, and has every refusal and finding of docs/FORMATS.md;
 - the completions are read by their shells, and bash and fish complete words by them;
 - a second installation works, a prefix may have a space in it, DESTDIR is heeded, and `--uninstall` leaves no file;
 - a wrong word, a bad prefix, another machine, and a release with a missing or an altered file are refused, and then nothing
@@ -30,10 +29,9 @@ SECONDS = 60  # no run may take longer
 READ = tomllib.loads((DATA_FILES / "install.toml").read_text())
 COPIES = READ["copies"]
 PAGE = "share/man/man1/cms-canon.1"
-ARCHIVE_PAGE = "share/man/man1/cms-canon-archive.1"
 PKG_CONFIG = "lib/pkgconfig/cms_canon.pc"
 LINK = "lib/libcms_canon.so"
-INSTALLED = {*COPIES, PAGE, ARCHIVE_PAGE, PKG_CONFIG, LINK}
+INSTALLED = {*COPIES, PAGE, PKG_CONFIG, LINK}
 C_PROGRAM = TOP / "tests" / "c" / "installed.c"
 MESSAGE, WANTED = (octets_of(read_vectors()[SMALLEST], it) for it in ("input", "output"))
 
@@ -88,9 +86,8 @@ def check_files(tally, prefix, used_below=None):
     modes = {f"{path.stat().st_mode & 0o777:o}" for path in prefix.rglob("*") if path.is_dir()}
     tally.count("modes of folders", differing({"755"}, modes))
     tally.count(LINK, differing("libcms_canon.so.0", os.readlink(prefix / LINK)))
-    for page, name in ((PAGE, "CMS-CANON"), (ARCHIVE_PAGE, "CMS-CANON-ARCHIVE")):
-        title = f'.TH {name} 1 "" "cms-canon {version}" "User Commands"'
-        tally.count(f"{page}: version", why_not_filled_in(prefix, page, title))
+    title = f'.TH CMS-CANON 1 "" "cms-canon {version}" "User Commands"'
+    tally.count(f"{PAGE}: version", why_not_filled_in(prefix, PAGE, title))
     tally.count(f"{PKG_CONFIG}: version", why_not_filled_in(prefix, PKG_CONFIG, f"Version: {version}"))
     tally.count(f"{PKG_CONFIG}: prefix", why_not_filled_in(prefix, PKG_CONFIG, f"prefix={used_below or prefix}"))
 
@@ -130,6 +127,22 @@ def check_library(tally, prefix, folder):
                 tally.count(f"a program in C, {kind}: run", why_not_done(ended) or differing(WANTED, ended.stdout))
 
 
+def check_page(tally, page):
+    """Checks how a manual page is formatted."""
+    if tally.has("man", page.name):
+        strict = run("man", "--warnings", "-E", "UTF-8", "-l", "-Tutf8", "-Z", page, MANWIDTH="80", LC_ALL="C")
+        tally.count(f"{page.name}: warnings", why_not_done(strict))
+        shown = run("man", "-l", page, MANWIDTH="80", LC_ALL="C.UTF-8")
+        lines = shown.stdout.decode().splitlines()
+        is_well = lines and max(map(len, lines)) <= 80
+        tally.count(f"{page.name}: 80 columns", why_not_done(shown) or ("" if is_well else "a line is longer, or none is there"))
+
+
+def test_page_of_the_archive(tally):
+    """It is not installed, since the command is not; but it is formatted as that of the command."""
+    check_page(tally, TOP / "archive" / "docs" / "man" / "cms-canon-archive.1")
+
+
 # ---- installing and removing
 
 def test_installation(tally, tmp_path):
@@ -149,14 +162,7 @@ def test_installation(tally, tmp_path):
         tally.count(f"{PAGE}: {number}", "" if f"\n{number}\n.br\n{name}\n" in page else f"it has no {name}")
     for number in dict.fromkeys(re.findall(r"^\| (F[0-9]+) \|", formats, re.MULTILINE)):
         tally.count(f"{PAGE}: {number}", "" if f"\n.B {number} " in page else "it is not there")
-    for name in (PAGE, ARCHIVE_PAGE):
-        if tally.has("man", name):
-            strict = run("man", "--warnings", "-E", "UTF-8", "-l", "-Tutf8", "-Z", prefix / name, MANWIDTH="80", LC_ALL="C")
-            tally.count(f"{name}: warnings", why_not_done(strict))
-            shown = run("man", "-l", prefix / name, MANWIDTH="80", LC_ALL="C.UTF-8")
-            lines = shown.stdout.decode().splitlines()
-            is_well = lines and max(map(len, lines)) <= 80
-            tally.count(f"{name}: 80 columns", why_not_done(shown) or ("" if is_well else "a line is longer, or none is there"))
+    check_page(tally, prefix / PAGE)
     check_completions(tally, prefix)
     check_library(tally, prefix, tmp_path)
     before = (prefix / "lib/libcms_canon.so.0").stat().st_ino

@@ -12,10 +12,12 @@
 - The commands of docs/RELEASING.md are run in a copy.
 - On a fresh Debian 12 the commands of docs/INSTALL.md are run as printed, with what they write, and leave nothing. If there cannot be such a
   machine, those that need none are run in a folder of this one.
+- On a fresh Debian 13 the archive is installed and used, with warnings as errors, and writes no line that it should not.
 """
 
 import io
 import os
+import re
 import shutil
 import subprocess
 import sys
@@ -25,6 +27,7 @@ import pytest
 from machines import Debian, Here, ended, sections
 from package_contents import OF_TOOL, difference, in_folder, tools_of
 from package_tools import DEBIAN, DIST, FIX, LIBRARIES, MODULES, NO_TOOL, PACKAGES, TOP, VERSION, WHEELS, copy_of_repository, package, told, why_failed
+from programs import octets_of, read_vectors
 from tally import differing
 
 pytestmark = pytest.mark.tree
@@ -139,6 +142,46 @@ def test_install(tally, tmp_path):
         tally.count("modules compiled", why_failed(compiled))
         done = machine.run(f"sudo apt-get purge {' '.join(DEBIAN)}")
         tally.count("all packages purged", why_failed(done) or differing([], machine.left_over()))
+
+
+# What is asked of the archive on Debian 13: words of the command, its status, what it has to write, and how many lines beside its output.
+STRICT = "PYTHONWARNINGS=error,ignore::ResourceWarning"  # of a store that the process closes by ending
+QUESTIONS = (
+    ("index example/messages --verify --jobs 2", 0, "", 4),
+    ("check --all", 0, r"^fits\t-\tright\t", 0),
+    ("signers", 0, r"^CN=\S+\tCN=CA\t.*\t20\S+Z\t20\S+Z\tsha256\tecdsa-sha256\tsecp256r1\t256\t", 0),
+    ("times", 0, r"^20..-..-..T.*Z\t", 0),
+    ("refusals", 0, r"^E7 UnexpectedElement at \d+\ta certificate \(X\.509\)\t", 0),
+    ("inspect example/messages/two-signers-streamed.p7m", 0, r"^    certificate +from 20.*Z to 20.*Z$", 0),
+    ("verify-store", 0, "", 0),
+)
+
+
+def test_debian_13(tally, tmp_path):
+    """Asks the archive of messages of the vectors, and of a certificate, with the Python, the cryptography and the SQLAlchemy of Debian 13."""
+    if why := Debian.why_not_here():
+        pytest.skip(why)
+    try:
+        machine = Debian(tmp_path, suite="trixie")
+    except OSError as error:
+        pytest.skip(f"there is no such machine: {error}")
+    names = {"libcms-canon0": "amd64", "python3-cms-canon": "amd64", "cms-canon-archive": "all"}
+    files = " ".join(f"./dist/packages/{name}_{VERSION}-1_{it}.deb" for name, it in names.items())
+    done = machine.run_as_root(f"apt-get install {files}")
+    tally.count("Debian 13/the packages", why_failed(done))
+    folder = machine.root / "home/user/clone/example/messages"
+    folder.mkdir(parents=True)
+    for name, vector in read_vectors().items():
+        if name.startswith("real-messages/") and vector["kind"] == "convert":
+            (folder / f"{name.partition('/')[2]}.p7m").write_bytes(octets_of(vector, "input"))
+    certificate = "openssl x509 -in $(find /usr/share/ca-certificates -name '*.crt' | sort | head -n 1) -outform DER"
+    machine.succeed(f"cd /home/user/clone/example && {certificate} >messages/certificate.der && chown -R user:user .")
+    for words, status, wanted, lines in QUESTIONS:
+        done = machine.run(f"{STRICT} cms-canon-archive {words}")
+        is_well = done.status == status and re.search(wanted, done.output, re.M) and done.error.count("\n") == lines and "Warning" not in done.error
+        tally.count(f"Debian 13/{words}", "" if is_well else told(done))
+    tally.count("Debian 13/purge", why_failed(machine.run_as_root(f"apt-get purge {' '.join(names)}")))
+    tally.count("Debian 13/left over", differing([], machine.left_over()))
 
 
 def test_releasing(tally, tmp_path):

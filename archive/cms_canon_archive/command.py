@@ -42,12 +42,13 @@ _json = click.option("--json", "form", flag_value="json", help="Write JSON, a li
 _csv = click.option("--csv", "form", flag_value="csv", help="Write CSV, with a line of names.")
 _FILE = click.Path(exists=True, dir_okay=False, allow_dash=True)
 _FOLDER = click.Path(exists=True, file_okay=False)
+_ANY_PATH = click.Path(readable=False)  # which shells complete, and of which nothing is asked
 _verify = click.option("--verify", "verifies", is_flag=True, help="Verify signatures by the certificates in the messages, which says nothing of trust.")
 
 
 _FILTERS = (
     click.option("--state", metavar="STATE", help="Only messages in this state, as 'does not fit', which the manual lists."),
-    click.option("--under", metavar="PATH", help="Only this file, or what is in this folder."),
+    click.option("--under", type=_ANY_PATH, metavar="PATH", help="Only this file, or what is in this folder."),
     click.option("--signer", metavar="TEXT", help="Only messages with TEXT in the name of a signer or of its issuer."),
     click.option("--algorithm", metavar="NAME", help="Only what uses this algorithm or key, as sha1 or RSA."),
     click.option("--since", metavar="TIME", help="Only what was signed or time-stamped from then on, in UTC: 2024, 2024-02 or 2024-02-29."),
@@ -163,10 +164,11 @@ def _with_name(rows: Iterable[Row]) -> Iterator[Dict[str, Any]]:
         yield {"file": name_of(row), **row}
 
 
-def _with_why(row: Dict[str, Any]) -> Dict[str, Any]:
-    """Adds the refusal as the command `cms-canon` says it, or why it cannot be read."""
-    why = row["error"] if row["reason"] is None else "E{reason} {name} at {at}".format(**row)
-    return {**row, "why": f"{row['what']}: {why}" if row["reason"] is None else why}
+def _with_why(form: Optional[str], row: Dict[str, Any]) -> Dict[str, Any]:
+    """Adds the refusal as the command `cms-canon` says it, or why it cannot be read, which a table does not say again in the note."""
+    if row["reason"] is not None:
+        return {**row, "why": "E{reason} {name} at {at}".format(**row)}
+    return {**row, "why": f"{row['what']}: {row['error']}", "note": row["note"] if form == "json" else ""}
 
 
 # ---- index
@@ -221,7 +223,7 @@ _idle_timeout = click.option(
 
 
 @main.command("index")
-@click.argument("paths", nargs=-1, required=True)
+@click.argument("paths", nargs=-1, required=True, type=_ANY_PATH)
 @_store
 @_wait
 @_verify
@@ -426,7 +428,7 @@ def progress_command(url: str, wait: Optional[float], form: Optional[str]) -> No
 
 
 @main.command("rows")
-@click.argument("paths", nargs=-1)
+@click.argument("paths", nargs=-1, type=_ANY_PATH)
 @_verify
 def rows_command(paths: Tuple[str, ...], verifies: bool) -> None:
     """Write what each file is, in lines of JSON.
@@ -797,13 +799,13 @@ def _write_shared(groups: Iterable[Group], form: Optional[str]) -> None:
 def refusals_command(filters: Filters, url: str, wait: Optional[float], form: Optional[str]) -> None:
     """List what is refused, damaged, too large, or cannot be read.
 
-    `cms-canon help convert` says what the reasons mean, and what to do.
+    Of what is refused it is said what it is, as a certificate or a key, if that is known. `cms-canon help convert` says what the reasons mean, and what to do.
     """
     from .queries import refusals
     from .store import Store
     from .writing import write
 
-    write(map(_with_why, _with_name(refusals(Store(url, wait=wait), filters))), form, ("why", "file"))
+    write(map(partial(_with_why, form), _with_name(refusals(Store(url, wait=wait), filters))), form, ("why", "note", "file"))
 
 
 @main.command("changed")

@@ -21,8 +21,10 @@ from cms_canon._facts import facts_of, token_facts_of
 from cms_canon._names import NAMES
 from cms_canon._rows import dotted
 
+from .certificate_texts import dates_of, name_text
 from .containers.found import GOOD, Class, Content, Found, State, digest_of
 from .containers.packed import why_of
+from .containers.refused import named
 from .containers.sources import Ended
 from .texts import text_of
 
@@ -220,8 +222,7 @@ def _read_certificate(octets: bytes) -> Optional[_Certificate]:
         with warnings.catch_warnings():
             warnings.simplefilter("ignore")  # of what a certificate should not have
             read = x509.load_der_x509_certificate(octets)
-        names = text_of(read.issuer.rfc4514_string()), text_of(read.subject.rfc4514_string())
-        times = read.not_valid_before.isoformat() + "Z", read.not_valid_after.isoformat() + "Z"
+        names, times = (text_of(name_text(read.issuer)), text_of(name_text(read.subject))), dates_of(read)
         found = found._replace(issuer_text=names[0], subject=names[1], not_before=times[0], not_after=times[1])
         found = found._replace(signature=text_of(_signature_of(read)))
         key, bits = _key_of(read)
@@ -641,4 +642,4 @@ def judged(found: Found, how: Verification = NOT_VERIFIED) -> Facts:
         unread = Content(where, 0, (), State.UNREADABLE, f"{where}: {why_of(why)}")
         return judged(found.with_content(unread), how)
     except cms_canon.Refused as refused:
-        return Facts(Class.REFUSED, note=_note_of(found), reason=refused.reason, name=refused.name, at=refused.at)
+        return Facts(Class.REFUSED, note=_joined(_note_of(found), named(found.octets)), reason=refused.reason, name=refused.name, at=refused.at)

@@ -18,7 +18,6 @@ import cms_canon
 from cms_canon._texts import PLACES, REFUSALS
 
 from .containers.found import Class, State
-from .plots import plot_of_sizes, plot_of_years
 from .summary import NOT_JUDGED, Group, Kind, Summary, summary_of
 from .texts import shown, size_of
 
@@ -172,6 +171,25 @@ def tables_of(summary: Summary) -> List[Table]:
 # ---- writing the page
 
 
+class _Charts(NamedTuple):
+    """The charts of a page, as parts of it; empty if there is nothing to be drawn."""
+
+    years: str = ""
+    sizes: str = ""
+    is_left_out: bool = False
+    """Whether they are left out, since Matplotlib is not installed."""
+
+
+def _charts(summary: Summary) -> _Charts:
+    try:
+        from .plots import plot_of_sizes, plot_of_years
+    except ModuleNotFoundError as missing:
+        if missing.name != "matplotlib":
+            raise
+        return _Charts(is_left_out=True)
+    return _Charts(plot_of_years(summary.years) if summary.years else "", plot_of_sizes(summary.powers) if summary.powers else "")
+
+
 def with_commands(text: str) -> Markup:
     """Returns a text of which each part between two backquotes is a command."""
     return Markup(re.sub(r"`([^`]*)`", r"<code>\1</code>", str(escape(text))))
@@ -192,6 +210,5 @@ def page_of(summary: Summary, store: str, made: Optional[datetime] = None) -> st
         paths=json.loads(summary.about.get("paths", "[]")),
         version=cms_canon.__version__,
         made=(made or datetime.now(timezone.utc)).strftime("%Y-%m-%d %H:%M UTC"),
-        years=plot_of_years(summary.years) if summary.years else None,
-        sizes=plot_of_sizes(summary.powers) if summary.powers else None,
+        charts=_charts(summary),
     )

@@ -9,7 +9,7 @@ import pytest
 from counting import needs_server
 from places import copy_packages, temporary_home
 
-IN_CONTAINERS = {"files", "forms", "found", "mail", "packed", "sources", "zips"}
+IN_CONTAINERS = {"files", "forms", "found", "mail", "packed", "refused", "sources", "zips"}
 
 
 class Modules:

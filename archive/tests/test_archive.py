@@ -161,7 +161,7 @@ def test_queries(home, files, made):
     count_same("duplicates", {it["digest"]: sorted(it["files"]) for it in lines_of(home, "duplicates", "--store", url)}, twice)
     refusals = {name: one.refusal for name, one in files.items() if one.refusal}
     count_same("refusals", {it["file"]: f"E{it['reason']} at {it['at']}" for it in lines_of(home, "refusals", "--store", url)}, refusals)
-    table = dict(reversed(line.split("\t")) for line in command(home, "refusals", "--store", url).splitlines())
+    table = {file: why for why, _, file in (line.split("\t") for line in command(home, "refusals", "--store", url).splitlines())}
     count_same("the table of refusals", {name: " at ".join((why.split()[0], why.split()[-1])) for name, why in table.items()}, refusals)
     changed = {it["file"] for it in lines_of(home, "changed", "--store", url)}
     count_same("changed", changed, {name for name, one in files.items() if one.is_der is False})

@@ -7,6 +7,7 @@ and is looked at by chromium, if it is installed.
 
 import base64
 import csv
+import difflib
 import io
 import json
 import re
@@ -551,6 +552,25 @@ def test_failure(home, text, reported):
     asked(home / "broken.db", "ALTER TABLE places RENAME COLUMN kind TO no_kind")
     command(home, "report", "--html", "page.html", "--store", home / "broken.db", status=1)
     count_if("the page after a failure", (home / "page.html").read_text(encoding="utf-8") == text, "another page")
+
+
+NO_CHART = '<p class="quiet">A chart needs Matplotlib, which is not installed where this page was made. The table has all numbers.</p>'
+MADE = re.compile(r"\d{4}-\d\d-\d\d \d\d:\d\d UTC")
+
+
+def test_without_charts(home, text, reported):
+    """Without Matplotlib the page has all but its charts, and says in their place what they need. If another package is missing, a line says so."""
+    missing = home / "matplotlib.py"
+    shutil.copy(reported.store, home / "index.db")
+    missing.write_text("raise ModuleNotFoundError(name='matplotlib')\n")
+    bare = command(home, "report", "--html", "-")
+    missing.write_text("raise ModuleNotFoundError(name='contourpy')\n")
+    failed = ended(home, "report", "--html", "-")
+    wanted = re.sub(r"(?s)<figure>.*?</figure>", NO_CHART, text)
+    count_same("charts", (wanted.count(NO_CHART), bare.count(NO_CHART), bare.count("<svg")), (2, 2, 0))
+    pages = [MADE.sub("", it).splitlines() for it in (wanted, bare)]
+    count_same("the rest of the page", [*difflib.unified_diff(*pages, lineterm="", n=0)], [])
+    count_same("another package", (failed.returncode, failed.stderr, failed.stdout), (1, "Error: this needs the package contourpy\n", ""))
 
 
 def test_places(home, text, reported):

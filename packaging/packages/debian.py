@@ -42,14 +42,19 @@ class Package:
     """Whether it has no code of a processor, and is for each of them."""
 
 
+def completions(name: str) -> Iterable[File]:
+    """Yields the completions of a command for bash, zsh and fish."""
+    folder = TEMPLATES / "completions"
+    yield File(f"usr/share/bash-completion/completions/{name}", (folder / f"{name}.bash").read_bytes())
+    yield File(f"usr/share/zsh/vendor-completions/_{name}", (folder / f"_{name}").read_bytes())
+    yield File(f"usr/share/fish/vendor_completions.d/{name}.fish", (folder / f"{name}.fish").read_bytes())
+
+
 def command(release: Release) -> Iterable[Entry]:
     """Yields the command, its manual page and its completions."""
-    completions = TOP / "packaging" / "completions"
     yield File("usr/bin/cms-canon", release.octets_of("cms-canon"), 0o755)
     yield File("usr/share/man/man1/cms-canon.1.gz", gzipped(manual(release, "docs/man/cms-canon.1")))
-    yield File("usr/share/bash-completion/completions/cms-canon", (completions / "cms-canon.bash").read_bytes())
-    yield File("usr/share/zsh/vendor-completions/_cms-canon", (completions / "_cms-canon").read_bytes())
-    yield File("usr/share/fish/vendor_completions.d/cms-canon.fish", (completions / "cms-canon.fish").read_bytes())
+    yield from completions("cms-canon")
 
 
 def libraries(release: Release) -> str:
@@ -88,9 +93,10 @@ def python(release: Release) -> Iterable[Entry]:
 
 
 def archive(release: Release) -> Iterable[Entry]:
-    """Yields the command cms-canon-archive, its modules and its manual page."""
+    """Yields the command cms-canon-archive, its modules, its manual page and its completions."""
     yield File("usr/bin/cms-canon-archive", COMMAND.encode(), 0o755)
     yield File("usr/share/man/man1/cms-canon-archive.1.gz", gzipped(manual(release, ARCHIVE.manual)))
+    yield from completions("cms-canon-archive")
     for file in [*modules(ARCHIVE, release), *about(ARCHIVE, release)]:
         yield file._replace(name=f"{PYTHON}/{file.name}")
 

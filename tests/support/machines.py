@@ -1,4 +1,4 @@
-"""Machines on which tests/packages.py runs the commands of docs/INSTALL.md: a fresh Debian 12, and a folder of this machine."""
+"""Machines on which tests/test_packages.py installs and uses the packages: a fresh Debian 12 or 13, and a folder of this machine."""
 
 import os
 import re
@@ -9,10 +9,10 @@ from pathlib import Path
 from typing import Dict, Iterable, List, NamedTuple, Optional, Tuple
 
 TOP = Path(__file__).resolve().parents[2]
-CACHE = TOP / "out" / "debian-12"
+CACHE = TOP / "out"
 SECONDS = 420  # no command may take longer on this machine
 DAYS = 14  # after which a base that is kept is made again
-SUITE = "bookworm"
+VERSIONS = {"bookworm": 12, "trixie": 13}  # of Debian, by suites
 APT = 'APT::Get::Assume-Yes "true";\nAPT::Install-Recommends "false";\nAPT::Keep-Downloaded-Packages "true";\nDpkg::Use-Pty "0";\n'
 LEFT = ("/home", "/proc", "/sys", "/dev", "/tmp", "/opt/rust", "/var/cache/apt", "/var/log")  # where nothing is looked for
 _SECTION = re.compile(r"^## (.*)$", re.M)
@@ -127,14 +127,14 @@ exec "$@"
 
 
 class Debian:
-    """A fresh Debian 12 in a folder, with a user who may call sudo and has a copy of the repository's files, and no more of this machine
-    than its mirror, its network and its Rust. What debootstrap and apt fetch is kept in out/debian-12. One of another architecture than
+    """A fresh Debian 12 or 13 in a folder, with a user who may call sudo and has a copy of the repository's files, and no more of this machine
+    than its mirror, its network and its Rust. What debootstrap and apt fetch is kept in out/debian-12 or out/debian-13. One of another architecture than
     this machine's has no Rust, and needs a kernel that has its programs run by qemu."""
 
-    name = "Debian 12"
-
-    def __init__(self, folder: Path, architecture: str = ""):
-        self.root, self.architecture = folder / "debian", architecture
+    def __init__(self, folder: Path, architecture: str = "", suite: str = "bookworm"):
+        self.root, self.architecture, self.suite = folder / "debian", architecture, suite
+        self.name = f"Debian {VERSIONS[suite]}"
+        self.cache = CACHE / f"debian-{VERSIONS[suite]}"
         self.seconds = SECONDS * (3 if architecture else 1)  # no command may take longer
         self.rust = ended(["rustc", "--print", "sysroot"]).output.strip() if shutil.which("rustc") and not architecture else ""
         self._unpack()
@@ -186,12 +186,12 @@ class Debian:
             "DEBIAN_FRONTEND": "noninteractive", **{name: value for name, value in os.environ.items() if name.endswith("_proxy")},
         }
         unshare = ["unshare", "--mount", "--pid", "--fork", "--kill-child", "sh", "-c", MOUNTS, "sh"]
-        return ended([*unshare, self.root, CACHE / "archives", self.rust, "chroot", self.root, *words], env=environment, timeout=self.seconds)
+        return ended([*unshare, self.root, self.cache / "archives", self.rust, "chroot", self.root, *words], env=environment, timeout=self.seconds)
 
     def _unpack(self) -> None:
         """Unpacks the base, which is made first if none is kept, or an old one."""
-        base = CACHE / f"base{self.architecture}.tar"
-        (CACHE / "archives" / "partial").mkdir(parents=True, exist_ok=True)
+        base = self.cache / f"base{self.architecture}.tar"
+        (self.cache / "archives" / "partial").mkdir(parents=True, exist_ok=True)
         if not base.exists() or time.time() - base.stat().st_mtime > DAYS * 86400:
             self._debootstrap(base)
         self.root.mkdir()
@@ -200,7 +200,8 @@ class Debian:
     def _debootstrap(self, base: Path) -> None:
         folder, new = self.root.with_name("base"), base.with_suffix(".new")
         of_other = [f"--arch={self.architecture}"] if self.architecture else []
-        succeed(["debootstrap", *of_other, "--variant=minbase", "--include=sudo,ca-certificates", SUITE, folder, mirror()], "debootstrap", timeout=self.seconds)
+        words = ["debootstrap", *of_other, "--variant=minbase", "--include=sudo,ca-certificates", self.suite, folder, mirror()]
+        succeed(words, "debootstrap", timeout=self.seconds)
         shutil.rmtree(folder / "var/cache/apt/archives", ignore_errors=True)
         (folder / "var/cache/apt/archives/partial").mkdir(parents=True)
         succeed(["tar", "--numeric-owner", "-cf", new, "-C", folder, "."], "the base cannot be kept")
@@ -213,7 +214,7 @@ class Debian:
         for name in ("resolv.conf", "hosts"):
             (etc / name).unlink(missing_ok=True)
             shutil.copyfile(Path("/etc", name), etc / name)
-        (etc / "apt/sources.list").write_text(f"deb {mirror()} {SUITE} main\n", encoding="ascii")
+        (etc / "apt/sources.list").write_text(f"deb {mirror()} {self.suite} main\n", encoding="ascii")
         (etc / "apt/apt.conf.d/90tests").write_text(APT, encoding="ascii")
         (etc / "dpkg/dpkg.cfg.d").mkdir(exist_ok=True)
         (etc / "dpkg/dpkg.cfg.d/90tests").write_text("force-unsafe-io\n", encoding="ascii")

@@ -59,6 +59,12 @@ def blocks_of(octets: bytes, label: bytes) -> List[bytes]:
     return [it for it in decoded if it is not None]
 
 
+def first_block(octets: bytes) -> Optional[Block]:
+    """Returns the first block of PEM with the octets that its base64 says, if it is base64; None if there is no block."""
+    block = next(_blocks_of(octets, Budget(len(octets))), None)
+    return block and block._replace(body=_decoded(block.body))
+
+
 def _without_headers(body: bytes) -> bytes:
     """Returns what is in a block after its headers, which end at an empty line (RFC 1421), if it has any."""
     end = _EMPTY_LINE.search(body, len(body) - len(body.lstrip()))
