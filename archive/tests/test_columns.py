@@ -25,7 +25,7 @@ WRITTEN_BY = {  # what writes the keys of each part of the section: words of the
         "changed",
     ),
     "Signers": ("signers", "rows archive:signed_by"), "Times": ("times", "rows archive:times"), "Algorithms": ("algorithms", "algorithms --weak"),
-    "Copies": ("duplicates", "duplicates --of digests"), "Differences": ("verify-store",), "Progress": ("progress",), "Workers": ("progress:workers",),
+    "Copies": ("duplicates", "duplicates --of digests"), "Differences": ("verify-store",), "Changes": ("changes",), "Progress": ("progress",), "Workers": ("progress:workers",),
     "Totals": ("index archive --jobs 1 --store other.db",), "Copying": ("convert archive --to copies", "export --to exported", "show archive/doc.p7s"),
 }
 ALSO = {"Algorithms": ("Signers", "Times")}  # whose keys rows of the former may have too
