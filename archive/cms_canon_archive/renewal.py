@@ -29,6 +29,7 @@ FITS = State.FITS.value
 MOST_SAID = 3  # time-stamps of one signature of which it is said why they do not protect it
 _DAY = re.compile("[0-9]{4}-[0-9]{2}-[0-9]{2}")
 _NO_END = "9999-12-31T23:59:59Z"
+_DAY_LENGTH = 10  # characters of a moment up to its day
 _SECONDS = 19  # characters of a moment up to its seconds
 _PATH = PARTS.c.path.concat(PARTS.c.name)
 _KEY = ("of_part", "of_file", "member", "number")
@@ -193,7 +194,7 @@ def _cut(store: Store, filters: Filters) -> Iterator[Row]:
 def _due(store: Store, policy: Policy, by: str, filters: Filters) -> Iterator[Row]:
     protected = _protected(policy, filters)
     last = _by_time_stamps(protected)
-    columns = (_PATH.concat(protected.c.of_file).label("path"), *protected.c, _until(protected).label("until"))
+    columns = (_PATH.concat(protected.c.of_file).label("path"), *protected.c, sa.func.substr(_until(protected), 1, _DAY_LENGTH).label("until"))
     due = sa.select(*columns).select_from(protected.join(PARTS, PARTS.c.id == protected.c.of_part))
     due = due.where(last.is_(None) | (last < f"{by}T00:00:00Z"))
     if filters.limit is not None:
@@ -208,8 +209,7 @@ def _row_of(rows: List[Row], policy: Policy, by: str) -> Row:
     first = rows[0]
     stamps = [_Stamp(*(row[f"stamp_{it}"] for it in _OF_TIME)) for row in rows if row["stamp_number"] is not None]
     why = "; ".join(_reasons(first, stamps, policy, by))
-    until = first["until"] and first["until"][:10]
-    return {**{it: first[it] for it in ("path", "member", "number", "subject")}, "until": until, "why": why}
+    return {**{it: first[it] for it in ("path", "member", "number", "subject", "until")}, "why": why}
 
 
 # ---- why
@@ -251,7 +251,7 @@ class _End(NamedTuple):
 
 def _ends(one: _Signature, policy: Policy) -> Iterator[_End]:
     """Gives when each ends of what a signature needs: its certificate, its algorithms and its key."""
-    yield _End(one.not_after, f"certificate ends {one.not_after[:10]}" if one.not_after else "end of the certificate not known")
+    yield _End(one.not_after, f"certificate ends {one.not_after[:_DAY_LENGTH]}" if one.not_after else "end of the certificate not known")
     yield _end("digest", one.digest, policy.digests.get(one.digest or ""))
     yield _end("signature algorithm", one.signature, policy.signatures.get(one.signature or ""))
     is_measured = one.key in policy.lengths
@@ -275,7 +275,7 @@ def _last(ends: Sequence[_End]) -> Optional[str]:
 
 def _lacking(ends: Sequence[_End], by: str) -> List[str]:
     """Says what has ended on a day, or is not known."""
-    return [it.said for it in ends if it.moment is None or it.moment[:10] < by]
+    return [it.said for it in ends if it.moment is None or it.moment[:_DAY_LENGTH] < by]
 
 
 def _reasons(found: Row, stamps: List[_Stamp], policy: Policy, by: str) -> List[str]:
@@ -307,7 +307,7 @@ def _why_not(stamp: _Stamp, own: Optional[str]) -> str:
         return f"{name}: {stamp.state or 'not known whether it fits'}"
     if stamp.time is None or own is None:
         return f"{name}: not known whether it is in time"
-    return f"{name} of {stamp.time[:10]}: too late, as the signature was good until {own[:10]}"
+    return f"{name} of {stamp.time[:_DAY_LENGTH]}: too late, as the signature was good until {own[:_DAY_LENGTH]}"
 
 
 def _of_best(good: Sequence[_Stamp], policy: Policy, by: str) -> List[str]:
