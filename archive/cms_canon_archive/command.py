@@ -937,14 +937,19 @@ def _says_what_is_left(watch: Watch) -> bool:
 def report_command(file: str, url: str, wait: Optional[float]) -> None:
     """Write a page about the archive.
 
-    It says how many signatures there are and how many fit, in one file for a browser that loads nothing else.
+    It says how many signatures there are, how many fit, until when they are protected, and what changed since the last report, in one file for a browser
+    that loads nothing else. The store keeps when the report was made, if it can be written to.
     """
     from . import report
+    from .history import note_report
     from .pages import Page
     from .store import Store
 
     store = Store(url, wait=wait)
-    Page(file).write(report.page_of(report.summary_of(store), store.name()))
+    summary = report.summary_of(store)
+    Page(file).write(report.page_of(summary, store.name()))
+    if why_not := note_report(url, wait, summary.time):
+        click.echo(f"the store does not keep when this report was made: {why_not}", err=True)
 
 
 if __name__ == "__main__":

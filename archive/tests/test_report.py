@@ -314,6 +314,7 @@ def test_plots(page, files):
     count_same("sizes", page.rows("sizes"), [[1 << power, (2 << power) - 1, number] for power, number in sorted(powers.items())])
     most = max(years, key=years.get)
     texts = [attributes.get("aria-label") for tag, attributes in page.tags if tag == "svg"]
+    texts = [it for it in texts if "cease to be protected" not in it]
     count_if("texts of the plots", len(texts) == 2 and f"{most}: {years[most]} tokens" in texts[0], texts)
 
 
