@@ -361,7 +361,7 @@ def test_store_that_cannot_be_noted_in(home, make):
     said = asked(home / "kept.db", "SELECT * FROM about ORDER BY name")
     done = ended(home, "report", "--html", "-", "--store", "kept.db", **AS_NOBODY) if AS_NOBODY else None
     if done is not None:
-        count_if("a store of somebody else", (done.returncode, done.stderr) == (0, "") and "since the last index began" in done.stdout, done)
+        count_if("a store of somebody else", done.returncode == 0 and "does not keep" not in done.stderr and "since the last index began" in done.stdout, done.returncode, done.stderr, re.findall(r"since[^\n]*", done.stdout))
         count_same("what it says of itself", asked(home / "kept.db", "SELECT * FROM about ORDER BY name"), said)
     with closing(sqlite3.connect(home / "kept.db")) as other:
         other.execute("BEGIN IMMEDIATE")
