@@ -247,7 +247,8 @@ def changes_counted(store: Store, first: int) -> Optional[Changes]:
     if not about.get(name, "").isdecimal():
         return None
     since = int(about[name])
-    counts, worse, kept = dict.fromkeys(Change, 0), 0, []
+    counts, worse = dict.fromkeys(Change, 0), 0
+    kept: List[Changed] = []
     for it in _ended(store, since, None):
         counts[it.change] += 1
         worse += it.is_worse

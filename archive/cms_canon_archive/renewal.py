@@ -184,9 +184,12 @@ def renewal(store: Store, policy: Policy, by: str, filters: Filters = ALL) -> It
 
 def _cut(store: Store, filters: Filters) -> Iterator[Row]:
     """Gives the messages with so many signers that the store may not have all of them."""
-    key = [SIGNERS.c[it] for it in _KEY[:-1]]
-    asked = sa.select(*key, sa.func.max(SIGNERS.c.path).label("path")).group_by(*key).having(sa.func.count() >= MOST_LISTED)
-    for row in store.asked(filters.where(asked, SIGNERS).order_by(sa.text("path"), SIGNERS.c.member)):
+    signers = _SIGNERS if filters.under is None else SIGNERS
+    key = [signers.c[it] for it in _KEY[:-1]]
+    many = filters.where(sa.select(*key), signers).group_by(*key).having(sa.func.count() >= MOST_LISTED).subquery("many")
+    path = _PATH.concat(many.c.of_file).label("path")
+    asked = sa.select(path, many.c.member).select_from(many.join(PARTS, PARTS.c.id == many.c.of_part)).order_by(path, many.c.member)
+    for row in store.asked(asked):
         why = f"the store takes {MOST_LISTED:,} signers and countersigners of a message, and may not have all of this one"
         yield {"path": row["path"], "member": row["member"], "number": "", "subject": None, "until": None, "why": why}
 

@@ -322,7 +322,8 @@ def _named_of(connection: Any) -> List[Named]:
     counts = _counts(connection, key, IS_WITHOUT_MESSAGE)
     most = nsmallest(MOST_LINES, counts.items(), key=lambda it: (-it[1], it[0]))
     first = _first_of(connection, key, IS_WITHOUT_MESSAGE & FILES.c.what.in_(_ONLY_NAMED))
-    return [Named(*name.split("\t", 1), count, first.get(name, [])) for name, count in most]
+    groups = ((*name.partition("\t"), count, first.get(name, [])) for name, count in most)
+    return [Named(what, form, count, files) for what, _, form, count, files in groups]
 
 
 def _folders_of(connection: Any, paths: List[str]) -> List[Group]:
