@@ -716,6 +716,41 @@ def times_command(filters: Filters, url: str, wait: Optional[float], form: Optio
     _write_named(times(Store(url, wait=wait), filters), form, ("time", "state", "policy", "serial", "digest", "number", "file"))
 
 
+@main.command("renewal")
+@click.option("--by", "by", required=True, metavar="DATE", help="The day until which signatures are to be protected, as 2030-12-31.")
+@click.option("--policy", "file", type=click.Path(exists=True, dir_okay=False, path_type=Path), metavar="FILE", help="Until when algorithms are accepted, in place of what is installed.")
+@_filtered(_FILTERS[1], _ORDER[1])
+@_store
+@_wait
+@_json
+@_csv
+def renewal_command(by: str, file: Optional[Path], filters: Filters, url: str, wait: Optional[float], form: Optional[str]) -> None:
+    """List the signatures that need a new time-stamp by DATE.
+
+    These are the ones that no time-stamp protects until then: there is none that fits and was made in time, its certificate ends before, or an algorithm
+    or a key is not accepted until then. What is not known is listed first. The status is 0 if there is nothing to do, and 1 if anything is listed.
+    """
+    from .policy import SHIPPED, policy_in
+    from .renewal import day_of, renewal
+    from .store import Store
+
+    try:
+        day = day_of(by)
+        policy = policy_in(file or SHIPPED)
+    except (Complaint, OSError, ValueError) as why:
+        raise click.UsageError(str(why))
+    is_any = False
+
+    def rows() -> Iterator[Row]:
+        nonlocal is_any
+        for row in renewal(Store(url, wait=wait), policy, day, filters):
+            is_any = True
+            yield row
+
+    _write_named(rows(), form, ("why", "until", "subject", "number", "file"))
+    sys.exit(1 if is_any else 0)
+
+
 @main.command("same")
 @click.argument("file", type=click.Path(exists=True, dir_okay=False, allow_dash=True))
 @_store
@@ -1042,14 +1077,19 @@ def _says_what_is_left(watch: Watch) -> bool:
 def report_command(file: str, url: str, wait: Optional[float]) -> None:
     """Write a page about the archive.
 
-    It says how many signatures there are and how many fit, in one file for a browser that loads nothing else.
+    It says how many signatures there are, how many fit, until when they are protected, and what changed since the last report, in one file for a browser
+    that loads nothing else. The store keeps when the report was made, if it can be written to.
     """
     from . import report
+    from .history import note_report
     from .pages import Page
     from .store import Store
 
     store = Store(url, wait=wait)
-    Page(file).write(report.page_of(report.summary_of(store), store.name()))
+    summary = report.summary_of(store)
+    Page(file).write(report.page_of(summary, store.name()))
+    if why_not := note_report(url, wait, summary.time):
+        click.echo(f"the store does not keep when this report was made: {why_not}", err=True)
 
 
 if __name__ == "__main__":

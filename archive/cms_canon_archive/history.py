@@ -23,6 +23,7 @@ if TYPE_CHECKING:
 ASKED = 900  # rows in a statement: SQLite before 3.32 takes 999 values
 
 BEGAN = "began"  # the name under which a store says when the last index began, in seconds since 1970
+REPORTED = "reported"  # the same of when the last report was made
 TOGETHER = 5000  # rows that are compared in one transaction
 
 _COLUMNS = ", ".join(KEPT)
@@ -227,11 +228,65 @@ def _after(store: Store, ids: List[int]) -> Dict[int, Row]:
 
 
 def _begun(store: Store, since: int, under: Optional[str]) -> Iterator[Changed]:
+    columns = (PATH.label("path"), PLACES.c.member, *(PLACES.c[it] for it in Row._fields))
+    order = (PLACES.c.part, PLACES.c.file, PLACES.c.member)  # in which they are stored: to sort a million paths takes longer than all else
+    for row in store.asked(_new_since(since, *columns).where(_is_below(PATH, under)).order_by(*order)):
+        yield Changed(Change.NEW, row["stored"], row["path"], row["member"], None, _row(row))
+
+
+def _new_since(since: int, *columns: Any) -> Any:
     own = (HISTORY.c.folder == PARTS.c.path) & (HISTORY.c.file == PARTS.c.name.concat(PLACES.c.file)) & (HISTORY.c.member == PLACES.c.member)
     was_there = sa.exists().where(own, HISTORY.c.ended >= since).correlate(PARTS, PLACES)
     is_listed = (PLACES.c.member == "") | (PLACES.c.what == Class.MESSAGE.value)
-    columns = (PATH.label("path"), PLACES.c.member, *(PLACES.c[it] for it in Row._fields))
-    asked = sa.select(*columns).select_from(PLACES.join(PARTS, PARTS.c.id == PLACES.c.part))
-    order = (PLACES.c.part, PLACES.c.file, PLACES.c.member)  # in which they are stored: to sort a million paths takes longer than all else
-    for row in store.asked(asked.where(PLACES.c.stored >= since, is_listed, ~was_there, _is_below(PATH, under)).order_by(*order)):
-        yield Changed(Change.NEW, row["stored"], row["path"], row["member"], None, _row(row))
+    return sa.select(*columns).select_from(PLACES.join(PARTS, PARTS.c.id == PLACES.c.part)).where(PLACES.c.stored >= since, is_listed, ~was_there)
+
+
+# ---- how much changed
+
+
+class Changes(NamedTuple):
+    """How much changed since a time."""
+
+    since: int
+    """In seconds since 1970 by the clock of the database."""
+    is_of_report: bool
+    """Whether the last report was made then; otherwise the last index began."""
+    counts: Dict[Change, int]
+    worse: int
+    first_worse: List[Changed]
+
+
+def changes_counted(store: Store, first: int) -> Optional[Changes]:
+    """Counts what changed since the last report, or else since the last index began; None if the store says neither. The first that are worse are kept."""
+    about = store.about()
+    name = REPORTED if REPORTED in about else BEGAN
+    if not about.get(name, "").isdecimal():
+        return None
+    since = int(about[name])
+    counts, worse = dict.fromkeys(Change, 0), 0
+    kept: List[Changed] = []
+    for it in _ended(store, since, None):
+        counts[it.change] += 1
+        worse += it.is_worse
+        kept += [it] if it.is_worse and len(kept) < first else []
+    (new,) = store.asked(_new_since(since, sa.func.count().label("count")))
+    return Changes(since, name == REPORTED, {**counts, Change.NEW: int(new["count"])}, worse, kept)
+
+
+def note_report(name: str, wait: Optional[float], time: int) -> Optional[str]:
+    """Has the store of this name keep when a report was made, in seconds since 1970, if it can be written to. Returns why not, if it should have."""
+    from sqlalchemy.exc import DBAPIError
+
+    from .opening import is_sqlite, is_writable, url_of
+    from .store import Store
+
+    url = url_of(name)
+    if is_sqlite(url) and not is_writable(str(url.database)):
+        return None
+    try:
+        store = Store(name, makes=True, wait=wait)  # one that is only asked is opened for reading
+        store.note({REPORTED: str(time)})
+        store.close()
+    except DBAPIError as error:
+        return str(error.orig).strip().partition("\n")[0]
+    return None

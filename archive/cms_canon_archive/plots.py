@@ -63,12 +63,8 @@ def _files(number: int) -> str:
     return f"{number:,} file{'' if number == 1 else 's'}"
 
 
-def _tokens(number: int) -> str:
-    return f"{number:,} token{'' if number == 1 else 's'}"
-
-
-def plot_of_years(years: Dict[int, int]) -> Markup:
-    """Returns a plot of the tokens by year, or by decade or century if the years are far apart."""
+def plot_of_years(years: Dict[int, int], name: str = "years", of: str = "time-stamp tokens", one: str = "token", more: str = "tokens") -> Markup:
+    """Returns a plot by year, or by decade or century if the years are far apart. `of` says of what, and `one` and `more` are what is counted."""
     span = max(years) - min(years) + 1
     step, unit = (1, "year") if span <= MOST_BARS else (10, "decade") if span <= 10 * MOST_BARS else (100, "century")
     bars: Dict[int, int] = {}
@@ -77,10 +73,10 @@ def plot_of_years(years: Dict[int, int]) -> Markup:
     names = {it: f"{it * step}{'' if step == 1 else 's'}" for it in range(min(bars), max(bars) + 1)}
     most = max(bars, key=bars.__getitem__)
     about = (
-        f"Bar chart of the time-stamp tokens by {unit}, from {min(years)} to {max(years)}. "
-        f"The {unit} with the most is {names[most]}: {_tokens(bars[most])}. The table below has all numbers."
+        f"Bar chart of the {of} by {unit}, from {min(years)} to {max(years)}. "
+        f"The {unit} with the most is {names[most]}: {bars[most]:,} {one if bars[most] == 1 else more}. The table below has all numbers."
     )
-    return _plot(bars, {it: names[it] for it in _some(range(min(bars), max(bars) + 1))}, "years", about)
+    return _plot(bars, {it: names[it] for it in _some(range(min(bars), max(bars) + 1))}, name, about)
 
 
 def plot_of_sizes(powers: Dict[int, int]) -> Markup:

@@ -241,8 +241,10 @@ def others(store: Store, filters: Filters = ALL) -> Iterator[Row]:
     return _files(store, filters, FILES.c.what.in_(_OTHERS), order=(FILES.c.what, FILES.c.form))
 
 
+_HAS_MESSAGE = (PLACES.c.part == FILES.c.of_part) & (PLACES.c.file == FILES.c.of_file) & (PLACES.c.what == Class.MESSAGE.value)
+IS_WITHOUT_MESSAGE = (FILES.c.member == "") & ~sa.exists().where(_HAS_MESSAGE).correlate(FILES)  # of a file: there is none in it
+
+
 def files(store: Store, all_of_them: bool, filters: Filters = ALL) -> Iterator[Row]:
     """Gives all files and what is in them, or only the files in which there is no message."""
-    own = (PLACES.c.part == FILES.c.of_part) & (PLACES.c.file == FILES.c.of_file) & (PLACES.c.what == Class.MESSAGE.value)
-    is_without = (FILES.c.member == "") & ~sa.exists().where(own).correlate(FILES)
-    return _files(store, filters, *([] if all_of_them else [is_without]))
+    return _files(store, filters, *([] if all_of_them else [IS_WITHOUT_MESSAGE]))

@@ -9,7 +9,7 @@ import json
 import re
 from datetime import datetime, timezone
 from pathlib import Path
-from typing import Any, Iterable, List, NamedTuple, Optional, Sequence
+from typing import Any, Dict, Iterable, List, NamedTuple, Optional, Sequence
 
 import jinja2
 from markupsafe import Markup, escape
@@ -18,11 +18,13 @@ import cms_canon
 from cms_canon._texts import PLACES, REFUSALS
 
 from .containers.found import Class, State
+from .history import Change
 from .summary import NOT_JUDGED, Group, Kind, Summary, summary_of
 from .texts import shown, size_of
 
 __all__ = ["REASONS", "page_of", "reason_of", "size_of", "summary_of"]
 
+_MINUTE = "%Y-%m-%d %H:%M UTC"
 TEMPLATE = Path(__file__).with_name("report.html.jinja")
 KINDS = {
     "signature": "Signed messages",
@@ -48,6 +50,13 @@ STATES = {  # what each state means, in the order of the page
     NOT_JUDGED: "It was stored by an earlier version: `cms-canon-archive index` judges it.",
     State.NO_SIGNATURE.value: "Certificates alone, requests, and responses without a token.",
 }
+CHANGES = {
+    Change.NEW: "New files, and messages in files",
+    Change.GONE: "Files and messages that are gone",
+    Change.CHANGED: "Files with other octets",
+    Change.STATE: "Files and messages of which something else is known",
+}
+YEARS_BEFORE, YEARS_AFTER = 20, 40  # this one, of the plot in which signatures cease to be protected: the table has all
 CLASSES = {
     Class.MESSAGE.value: "CMS messages and time-stamps",
     Class.CONTAINER.value: "files with such messages in them",
@@ -138,6 +147,21 @@ def _kinds(summary: Summary) -> Table:
     return Table("kinds", "Octets are those of the messages, without what they cover.", columns, rows)
 
 
+def _renewal(summary: Summary) -> Table:
+    years = [("not known" if year is None else f"{year:04d}", count) for year, count in (summary.renewal or {}).items()]
+    return Table("renewal", "9999 is for what has no known end.", (Column("Year"), _number("Signatures")), years)
+
+
+def _changes(summary: Summary) -> Table:
+    rows = [] if summary.changes is None else [(said, summary.changes.counts[it]) for it, said in CHANGES.items()]
+    return Table("changes", "", (Column("What"), _number("How many")), rows)
+
+
+def _named(summary: Summary) -> Table:
+    rows = [(CLASSES.get(it.what, it.what), it.form or None, it.files) for it in summary.named]
+    return Table("named", "", (Column("What"), Column("Form"), _number("Files")), rows)
+
+
 def tables_of(summary: Summary) -> List[Table]:
     """Returns the tables of a page."""
     counts = {**summary.states, State.FITS.value: summary.of(State.FITS) - summary.noted, FITS_NOTED: summary.noted}
@@ -160,6 +184,10 @@ def tables_of(summary: Summary) -> List[Table]:
         Table("time-states", "", (Column("State"), _number("Tokens")), [*summary.time_states.items()]),
         _groups("folders", "Folder", summary.folders),
         _groups("forms", "Container", summary.forms),
+        _groups("signed-years", "Year", summary.signed_years),
+        _renewal(summary),
+        _changes(summary),
+        _named(summary),
         _kinds(summary),
         Table("sizes", "", (Column("Octets, from", "number"), _number("to"), _number("Messages")),
               [(1 << power, (2 << power) - 1, count) for power, count in summary.powers.items()]),
@@ -168,26 +196,33 @@ def tables_of(summary: Summary) -> List[Table]:
     ]
 
 
-# ---- writing the page
+# ---- plots
 
 
-class _Charts(NamedTuple):
-    """The charts of a page, as parts of it; empty if there is nothing to be drawn."""
-
-    years: str = ""
-    sizes: str = ""
-    is_left_out: bool = False
-    """Whether they are left out, since Matplotlib is not installed."""
-
-
-def _charts(summary: Summary) -> _Charts:
+def charts_of(summary: Summary, year: int) -> Optional[Dict[str, Markup]]:
+    """Returns the plots of a page by their names, without those for which there is nothing; None if Matplotlib is not installed. `year` is this one."""
     try:
         from .plots import plot_of_sizes, plot_of_years
     except ModuleNotFoundError as missing:
         if missing.name != "matplotlib":
             raise
-        return _Charts(is_left_out=True)
-    return _Charts(plot_of_years(summary.years) if summary.years else "", plot_of_sizes(summary.powers) if summary.powers else "")
+        return None
+    found = {}
+    if summary.years:
+        found["years"] = plot_of_years(summary.years)
+    if summary.powers:
+        found["sizes"] = plot_of_sizes(summary.powers)
+    near = {it: count for it, count in (summary.renewal or {}).items() if it is not None and year - YEARS_BEFORE <= it < year + YEARS_AFTER}
+    if near:
+        found["renewal"] = plot_of_years(near, "renewal-years", "signatures that cease to be protected", "signature", "signatures")
+    return found
+
+
+# ---- writing the page
+
+
+def _moment(seconds: int) -> str:
+    return datetime.fromtimestamp(seconds, timezone.utc).strftime(_MINUTE)
 
 
 def with_commands(text: str) -> Markup:
@@ -200,7 +235,8 @@ def page_of(summary: Summary, store: str, made: Optional[datetime] = None) -> st
     environment = jinja2.Environment(
         autoescape=True, undefined=jinja2.StrictUndefined, trim_blocks=True, lstrip_blocks=True, keep_trailing_newline=True,
     )
-    environment.filters.update(shown=shown, size=size_of, with_commands=with_commands, number="{:,}".format)
+    now = made or datetime.now(timezone.utc)
+    environment.filters.update(moment=_moment, shown=shown, size=size_of, with_commands=with_commands, number="{:,}".format)
     return environment.from_string(TEMPLATE.read_text(encoding="utf-8")).render(
         summary=summary,
         state=State,
@@ -209,6 +245,6 @@ def page_of(summary: Summary, store: str, made: Optional[datetime] = None) -> st
         store=store,
         paths=json.loads(summary.about.get("paths", "[]")),
         version=cms_canon.__version__,
-        made=(made or datetime.now(timezone.utc)).strftime("%Y-%m-%d %H:%M UTC"),
-        charts=_charts(summary),
+        made=now.strftime(_MINUTE),
+        charts=charts_of(summary, now.year),
     )

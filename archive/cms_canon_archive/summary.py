@@ -9,9 +9,14 @@ from typing import Any, Dict, Iterator, List, NamedTuple, Optional, Tuple
 
 import sqlalchemy as sa
 
+from . import renewal
 from .containers.found import Class, State
-from .queries import IS_NOTED, is_weak, name_of
+from .faults import Complaint
+from .history import Changes, changes_counted
+from .policy import policy_in
+from .queries import IS_NOTED, IS_WITHOUT_MESSAGE, is_weak, name_of
 from .store import FILES, SIGNERS, TIMES, Store
+from .tables import PLACE_SIGNERS, PLACE_TIMES, Now, of_same_place
 
 FIRST = 5  # files of each refusal, error and group that the page names
 LARGEST = 10  # groups of copies, and of files that cannot be read, that the page has
@@ -19,6 +24,7 @@ MOST_LINES = 40  # of a table of signers, folders or algorithms
 MOST_POWERS = 48  # a file is shorter than 2 to this many octets
 NOT_JUDGED = "not judged"
 KINDS = ("signature", "token", "response", "request", "certificates")
+_ONLY_NAMED = (Class.OTHER.value, Class.NOT_LOOKED_INTO.value)
 _WRONG = (Class.DAMAGED.value, Class.TOO_LARGE.value, Class.UNREADABLE.value)
 
 
@@ -94,8 +100,17 @@ class Who(NamedTuple):
     has_ended: bool
 
 
+class Named(NamedTuple):
+    """The files without a message that are of one class and form, of which the first are named."""
+
+    what: str
+    form: str
+    files: int
+    first: List[File]
+
+
 class Group(NamedTuple):
-    """Messages of one folder or container: how many fit, do not, and could not be judged; files counts what has no signature too."""
+    """Messages of one folder, container or year: how many fit, do not, and could not be judged; files counts what has no signature too."""
 
     name: str
     files: int
@@ -134,7 +149,15 @@ class Summary(NamedTuple):
     forms: List[Group]
     powers: Dict[int, int]
     """How many messages have from 2**power octets to less than twice as many."""
+    signed_years: List[Group]
+    """By the year in which the first signer says that it signed, or else of the time-stamp."""
+    renewal: Optional[Dict[Optional[int], int]]
+    """How many signatures cease to be protected, by the year; None if there is nothing that can read the policy."""
+    changes: Optional[Changes]
+    named: List[Named]
     about: Dict[str, str]
+    time: int
+    """When it was so, in seconds since 1970 by the clock of the database."""
 
     def of(self, *states: State) -> int:
         """Returns how many messages are in these states."""
@@ -257,14 +280,50 @@ def _sum_of(condition: Any) -> Any:
     return sa.func.coalesce(sa.func.sum(sa.case((condition, 1), else_=0)), 0)
 
 
-def _groups_of(connection: Any, key: Any, *conditions: Any) -> List[Group]:
-    """Returns the messages in groups, those with most signatures that do not fit first."""
+def _group_columns() -> List[Any]:
+    """Returns the counts of a group: all messages, and those that fit, fit in part, do not, and are not judged."""
     known = [it.value for it in (State.FITS, State.EARLIER, State.PARTLY, State.DIFFERS, State.NO_SIGNATURE)]
     fit, differ = _sum_of(_STATE == State.FITS.value), _sum_of(_STATE == State.DIFFERS.value)
     in_part = _sum_of(_STATE.in_([State.EARLIER.value, State.PARTLY.value]))
-    columns = (sa.func.count(), fit, in_part, differ, _sum_of(_STATE.not_in(known)))
-    asked = sa.select(key, *columns).where(_IS_MESSAGE, *conditions).group_by(key).order_by(differ.desc(), sa.func.count().desc(), key)
-    return [Group(str(name or ""), *map(int, counts)) for name, *counts in connection.execute(asked.limit(MOST_LINES))]
+    return [sa.func.count(), fit, in_part, differ, _sum_of(_STATE.not_in(known))]
+
+
+def _groups_in(connection: Any, asked: Any) -> List[Group]:
+    return [Group(str(name or ""), *map(int, counts)) for name, *counts in connection.execute(asked)]
+
+
+def _groups_of(connection: Any, key: Any, *conditions: Any) -> List[Group]:
+    """Returns the messages in groups, those with most signatures that do not fit first."""
+    columns = _group_columns()
+    order = (columns[3].desc(), columns[0].desc(), key)
+    return _groups_in(connection, sa.select(key, *columns).where(_IS_MESSAGE, *conditions).group_by(key).order_by(*order).limit(MOST_LINES))
+
+
+def _signed_years_of(connection: Any) -> List[Group]:
+    """Returns the messages that somebody signed by the year in which the first signer claims that, or else of the first time-stamp."""
+    first = of_same_place(PLACE_SIGNERS, FILES) & (PLACE_SIGNERS.c.number == "0")
+    stamp = sa.select(sa.func.min(PLACE_TIMES.c.time)).where(of_same_place(PLACE_TIMES, FILES)).correlate(FILES).scalar_subquery()
+    year = sa.func.coalesce(sa.func.substr(sa.func.coalesce(PLACE_SIGNERS.c.signing_time, FILES.c.time, stamp), 1, 4), "not said").label("year")
+    asked = sa.select(year, *_group_columns()).select_from(FILES.outerjoin(PLACE_SIGNERS, first))
+    return _groups_in(connection, asked.where(_IS_MESSAGE, _STATE != State.NO_SIGNATURE.value).group_by(year).order_by(year))
+
+
+def _renewal_of(connection: Any) -> Optional[Dict[Optional[int], int]]:
+    try:
+        policy = policy_in()
+    except Complaint:  # before Python 3.11 there may be nothing that reads it
+        return None
+    return renewal.years(connection, policy)
+
+
+def _named_of(connection: Any) -> List[Named]:
+    """Returns the largest groups of files without a message."""
+    key = FILES.c.what.concat("\t").concat(sa.func.coalesce(FILES.c.form, ""))
+    counts = _counts(connection, key, IS_WITHOUT_MESSAGE)
+    most = nsmallest(MOST_LINES, counts.items(), key=lambda it: (-it[1], it[0]))
+    first = _first_of(connection, key, IS_WITHOUT_MESSAGE & FILES.c.what.in_(_ONLY_NAMED))
+    groups = ((*name.partition("\t"), count, first.get(name, [])) for name, count in most)
+    return [Named(what, form, count, files) for what, _, form, count, files in groups]
 
 
 def _folders_of(connection: Any, paths: List[str]) -> List[Group]:
@@ -285,6 +344,8 @@ def summary_of(store: Store, now: Optional[datetime] = None) -> Summary:
     """Returns what the store says of the archive at one moment, with what has ended until now."""
     text = (now or datetime.now(timezone.utc)).strftime("%Y-%m-%dT%H:%M:%SZ")
     about = store.about()
+    (clock,) = store.asked(sa.select(Now().label("now")))  # before all else, so that nothing is between two reports
+    changes = changes_counted(store, FIRST)
     with moment(store) as connection:
         own = sa.select(sa.func.count(), sa.func.coalesce(sa.func.sum(FILES.c.size), 0)).where(FILES.c.member == "")
         files, octets = map(int, connection.execute(own).one())
@@ -310,5 +371,10 @@ def summary_of(store: Store, now: Optional[datetime] = None) -> Summary:
             folders=_folders_of(connection, store.paths()),
             forms=_groups_of(connection, FILES.c.form),
             powers=_powers_of(connection),
+            signed_years=_signed_years_of(connection),
+            renewal=_renewal_of(connection),
+            changes=changes,
+            named=_named_of(connection),
             about=about,
+            time=int(clock["now"]),
         )

@@ -32,7 +32,7 @@ def row_at_random(random, like, number):
     """Returns a row of a message with signers and tokens, or of a text."""
     row = {**like, "path": f"{random.choice(FOLDERS)}/{number}.p7s", "digest": f"{number:064x}", "length": random.randrange(100), "is_der": random.random() < 0.5}
     signers = [signer_at_random(random, like["signed_by"][0], it) for it in range(random.choice((0, 1, 1, 2)))]
-    token = {"policy": "1.2.3", "serial": "5"}
+    token = {"policy": "1.2.3", "serial": "5", **dict.fromkeys(("subject", "not_after", "signature", "key", "bits", "imprint"))}
     times = [{**token, "number": f"0/{it}", "time": random.choice(TIMES), "digest": random.choice(DIGESTS), "state": random.choice(STATES)} for it in range(random.choice((0, 0, 1, 2)))]
     return {**row, "signed_by": signers, "times": times, "state": random.choice(STATES), "findings": random.choice(("", "F10 digest algorithm not listed"))}
 

@@ -13,8 +13,11 @@ import json
 import re
 import resource
 import shutil
+import sqlite3
 import subprocess
+import time
 from collections import Counter, namedtuple
+from contextlib import closing
 from hashlib import sha256
 from html import escape
 from html.parser import HTMLParser
@@ -24,10 +27,10 @@ from types import SimpleNamespace
 from xml.etree import ElementTree
 
 import pytest
-from counting import count_if, count_same, needs
+from counting import count_if, count_same, is_line, needs
 from making import grouped, row_with, tarred, write_files, zipped
 from places import RELEASE, TOP
-from running import SECONDS, asked, command, ended, lines_of
+from running import AS_NOBODY, SECONDS, asked, command, ended, lines_of
 from tally import count
 
 pytestmark = [pytest.mark.archive, needs("click", "tqdm", "sqlalchemy", "jinja2", "matplotlib")]
@@ -315,7 +318,124 @@ def test_plots(page, files):
     count_same("sizes", page.rows("sizes"), [[1 << power, (2 << power) - 1, number] for power, number in sorted(powers.items())])
     most = max(years, key=years.get)
     texts = [attributes.get("aria-label") for tag, attributes in page.tags if tag == "svg"]
+    texts = [it for it in texts if "cease to be protected" not in it]
     count_if("texts of the plots", len(texts) == 2 and f"{most}: {years[most]} tokens" in texts[0], texts)
+
+
+# ---- what changed, and what is only named
+
+
+@needs(tools=["openssl"])
+def test_changes(home, make):
+    """The page says what changed since the last report, or since the first index began, and names what is worse."""
+    folder, words = home / "changing", ("report", "--html", "-", "--store", "changing.db")
+    files = {f"{it}.p7s": make.cms(it.encode()) for it in "abcdefgh"}
+    write_files(folder, {**files, **{it: it.encode() for it in "abcdefgh"}, "sealed.zip": zipped({"in.p7m": make.cms(b"in", "-nodetach")}), "old.txt": b"old"})
+    command(home, "index", folder, "--store", "changing.db")
+    first = judge_page("the first page", command(home, *words))
+    count_same("at first, all is new", [row[1] for row in first.rows("changes")], [19, 0, 0, 0])
+    count_if("since the index", "since the last index began" in first.texts["since"] and first.texts["worse"] == "No message", first.texts)
+    time.sleep(1.1)  # what is of the second of a report is in the next one too
+    count_same("nothing changed", [row[1] for row in judge_page("the second page", command(home, *words)).rows("changes")], [0, 0, 0, 0])
+    time.sleep(1.1)
+    write_files(folder, {**{it: b"another one" for it in "abcde"}, "new.txt": b"new", "sealed.zip": zipped({"in.p7m": b"0", "new.txt": b"new"})})
+    for name in ("f.p7s", "old.txt"):
+        (folder / name).unlink()
+    command(home, "index", folder, "--store", "changing.db")
+    page = judge_page("the third page", command(home, *words))
+    count_if("since the report", "since the last report was made" in page.texts["since"], page.texts["since"])
+    count_same("what changed", dict(page.rows("changes")), {
+        "New files, and messages in files": 1, "Files and messages that are gone": 2, "Files with other octets": 6,
+        "Files and messages of which something else is known": 6,
+    })
+    (card,) = (it for it in page.cards if it.title.startswith("What is worse"))
+    count_same("what is worse", (page.numbers("worse"), card.title, len(card.files), card.files[-1]), ([7], "What is worse: 7 messages", 6, "and 2 more"))
+    wanted = {"fits, now does not fit", "fits, now gone"}
+    count_if("how it is worse", {it.partition(" ")[2] for it in card.files[:-1]} <= wanted and all(str(folder) in it for it in card.files[:-1]), card.files)
+
+
+@needs(tools=["openssl"])
+def test_store_that_cannot_be_noted_in(home, make):
+    """A store that cannot be written to is reported on and stays as it is; one that is locked has a line, and the page is written."""
+    write_files(home / "kept", {"a.p7m": make.cms(b"a", "-nodetach")})
+    command(home, "index", home / "kept", "--store", "kept.db")
+    said = asked(home / "kept.db", "SELECT * FROM about ORDER BY name")
+    done = ended(home, "report", "--html", "-", "--store", "kept.db", **AS_NOBODY) if AS_NOBODY else None
+    if done is not None:
+        count_if("a store of somebody else", done.returncode == 0 and "does not keep" not in done.stderr and "since the last index began" in done.stdout, done.returncode, done.stderr, re.findall(r"since[^\n]*", done.stdout))
+        count_same("what it says of itself", asked(home / "kept.db", "SELECT * FROM about ORDER BY name"), said)
+    with closing(sqlite3.connect(home / "kept.db")) as other:
+        other.execute("BEGIN IMMEDIATE")
+        done = ended(home, "report", "--html", "page.html", "--store", "kept.db", "--wait", "0.1")
+        is_written = (home / "page.html").read_text(encoding="utf-8").startswith("<!doctype")
+        count_if("a locked store", done.returncode == 0 and is_written and is_line(done.stderr, "does not keep", "locked"), done)
+    asked(home / "kept.db", "DELETE FROM about WHERE name = 'began'")
+    page = judge_page("a store of an older version", command(home, "report", "--html", "-", "--store", "kept.db"))
+    count_if("it is not known since when", "does not say" in page.texts["since"] and "changes" not in page.tables, page.texts["since"])
+
+
+def test_named_files(home):
+    """Files without a message are counted by what they are, and those of other formats are named."""
+    sealed = b"7z\xbc\xaf\x27\x1c" + bytes(40)
+    folder = write_files(home / "named", {**{f"{it}.7z": sealed for it in range(7)}, "a.txt": b"text", "b.txt": b"text\n", "<i>.7z": sealed})
+    command(home, "index", folder, "--store", "named.db")
+    page = judge_page("a page with files that are only named", command(home, "report", "--html", "-", "--store", "named.db"))
+    rows = [(row[1], row[2]) for row in page.rows("named")]
+    count_same("files without a message", rows, [("7z", 8), ("text", 2)])
+    (card,) = (it for it in page.cards if it.title == "7z: 8 files")
+    count_same("the first of them", card.files, [*(f"{folder}/{it}.7z" for it in range(5)), "and 3 more: cms-canon-archive files lists all"])
+
+
+def years_at_random(archive, random):
+    """Returns rows of messages with signers and time-stamps, or of tokens, of few years."""
+    signer, stamp = ({it.name: None for it in archive.tables.columns_of(table)} for table in (archive.tables.PLACE_SIGNERS, archive.tables.PLACE_TIMES))
+    good = {"digest": "sha256", "signature": "rsa-sha256", "key": "RSA", "bits": 4096}
+    rows = []
+    for number in range(300):
+        signing, time, *ends = (random.choice((None, "2021-05-01T00:00:00Z", "2022-12-31T23:59:59Z", "2030-01-01T00:00:00Z")) for _ in range(4))
+        of_message = random.random() < 0.8
+        state = random.choice(STATES)
+        signers = [{**signer, **good, "number": "0", "signing_time": signing, "not_after": ends[0]}, {**signer, **good, "number": "0.0", "signing_time": "1999-01-01T00:00:00Z"}]
+        stamps = [{**stamp, **good, "number": "0/0" if of_message else "", "time": time, "not_after": ends[1], "state": "fits"}] if time else []
+        row = row_with(archive, f"/{number % 3}/{number}", member="", length=1, form="file", findings="", what="message", kind="signature", is_der=True)
+        row.update(digest=f"{number:064x}", state=state, time=None if of_message else time, signed_by=signers, times=stamps)
+        rows.append(row)
+    return rows
+
+
+def renewal_year_of(row):
+    """Returns the year in which a message ceases to be protected, since all its algorithms last until 2035."""
+    own = row["signed_by"][0]["not_after"]
+    for stamp in row["times"]:
+        is_good = stamp["number"] != "" and own and stamp["time"] <= own and stamp["not_after"]
+        own = max(own, stamp["not_after"]) if is_good else own
+    return own and int(own[:4])
+
+
+def test_years(home, archive):
+    """Messages are counted by the year in which they were signed, and by that in which they cease to be protected."""
+    rows = years_at_random(archive, Random(SEED))
+    store = archive.store.Store(f"sqlite:///{home}/years.db", makes=True)
+    store.put([archive.reading.Part([row], True, True) for row in rows])
+    summary = archive.report.summary_of(store)
+    signed = [row for row in rows if row["state"] != NONE]
+    for row in signed:
+        row["year"] = (row["signed_by"][0]["signing_time"] or (row["times"] or [{"time": None}])[0]["time"] or "not said")[:8 if not (row["signed_by"][0]["signing_time"] or row["times"]) else 4]
+    count_same("years of signing", {it.name: it[1:] for it in summary.signed_years}, totals(signed, "year", counts_of_states))
+    count_same("years of renewal", summary.renewal, dict(Counter(map(renewal_year_of, rows))))
+    page = judge_page("a page with years", archive.report.page_of(summary, "years"))
+    wanted = {"not known" if it is None else it: count for it, count in Counter(map(renewal_year_of, rows)).items()}
+    count_same("the table of renewal", dict(page.rows("renewal")), wanted)
+    known = {it: count for it, count in wanted.items() if it != "not known"}
+    most = max(known, key=known.get)
+    texts = [attributes.get("aria-label") for tag, attributes in page.tags if tag == "svg"]
+    count_if("the plot of renewal", any("cease to be protected" in it and f"{most}: {known[most]} signatures" in it for it in texts), texts)
+    years = {None: 3, 1066: 1, 2006: 1, 2007: 2, 2065: 1, 2066: 5, 9999: 7}
+    charts = archive.report.charts_of(summary._replace(renewal=years), 2026)
+    count_if("years that are far away are in the table alone", "from 2006 to 2065" in charts["renewal"], charts["renewal"][:300])
+    for years in ({}, None, {None: 2}, {9999: 1}):
+        count_same(f"no plot of {years}", "renewal" in archive.report.charts_of(summary._replace(renewal=years), 2026), False)
+    judge_page("nothing that reads a policy", archive.report.page_of(summary._replace(renewal=None), "years"))
 
 
 # ---- judging how the page says it
