@@ -303,15 +303,20 @@ def index_command(
 
 def _settings(given: Sequence[str], excluded: Sequence[str], one_file_system: bool) -> Settings:
     """Returns what an index is told to leave out, and by which certificates it verifies."""
-    from .one_file import certificates_in
     from .settings import MOST_EXCLUDED, MOST_OCTETS, Settings
 
-    certificates = _said_wrong(lambda: tuple(it for path in given for it in certificates_in(path)))
+    certificates = _certificates_in(given) if given else ()
     if sum(map(len, certificates)) > MOST_OCTETS:
         raise click.UsageError(f"--certificates: they have more than {MOST_OCTETS:,} octets")
     if len(excluded) > MOST_EXCLUDED or "" in excluded:
         raise click.UsageError(f"--exclude is given at most {MOST_EXCLUDED:,} times, and never empty")
     return Settings(certificates, tuple(excluded), one_file_system)
+
+
+def _certificates_in(given: Sequence[str]) -> Tuple[bytes, ...]:
+    from .one_file import certificates_in
+
+    return _said_wrong(lambda: tuple(it for path in given for it in certificates_in(path)))
 
 
 def _said_wrong(do: Callable[[], _Item]) -> _Item:

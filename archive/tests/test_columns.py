@@ -25,11 +25,11 @@ WRITTEN_BY = {  # what writes the keys of each part of the section: words of the
         "changed",
     ),
     "Signers": ("signers", "rows archive:signed_by"), "Times": ("times", "rows archive:times"), "Algorithms": ("algorithms", "algorithms --weak"),
-    "Copies": ("duplicates", "duplicates --of digests"), "Differences": ("verify-store",), "Changes": ("changes",), "Progress": ("progress",), "Workers": ("progress:workers",),
+    "Copies": ("duplicates", "duplicates --of digests"), "Differences": ("verify-store",), "Changes": ("changes",), "Renewal": ("renewal --by 2030-12-31",), "Progress": ("progress",), "Workers": ("progress:workers",),
     "Totals": ("index archive --jobs 1 --store other.db",), "Copying": ("convert archive --to copies", "export --to exported", "show archive/doc.p7s"),
 }
 ALSO = {"Algorithms": ("Signers", "Times")}  # whose keys rows of the former may have too
-ARGUMENTS = {"same": "same archive/doc.p7s", "duplicates --of": "duplicates --of digests"}  # what a table needs
+ARGUMENTS = {"same": "same archive/doc.p7s", "renewal": "renewal --by 2030-12-31", "duplicates --of": "duplicates --of digests"}  # what a table needs
 
 
 def word_of(words):

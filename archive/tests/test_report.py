@@ -527,7 +527,8 @@ def random_times(random):
     if random.random() < 2 / 3:
         return []
     time = f"{random.randrange(10000):04d}-02-28T23:59:59Z"
-    return [{"number": "", "policy": "1.2", "serial": "1", "digest": "sha256", "state": random.choice(STATES[:5]), "time": time}]
+    of_signer = {"subject": None, "not_after": random.choice((None, "2001-01-01T00:00:00Z", "9999-01-01T00:00:00Z")), "signature": "rsa-sha256", "key": "RSA", "bits": 2048}
+    return [{"number": "", "policy": "1.2", "serial": "1", "digest": "sha256", "state": random.choice(STATES[:5]), "time": time, "imprint": None, **of_signer}]
 
 
 def is_weak(signer):
@@ -687,7 +688,7 @@ def test_without_charts(home, text, reported):
     missing.write_text("raise ModuleNotFoundError(name='contourpy')\n")
     failed = ended(home, "report", "--html", "-")
     wanted = re.sub(r"(?s)<figure>.*?</figure>", NO_CHART, text)
-    count_same("charts", (wanted.count(NO_CHART), bare.count(NO_CHART), bare.count("<svg")), (2, 2, 0))
+    count_same("charts", (wanted.count(NO_CHART), bare.count(NO_CHART), bare.count("<svg")), (3, 3, 0))
     pages = [MADE.sub("", it).splitlines() for it in (wanted, bare)]
     count_same("the rest of the page", [*difflib.unified_diff(*pages, lineterm="", n=0)], [])
     count_same("another package", (failed.returncode, failed.stderr, failed.stdout), (1, "Error: this needs the package contourpy\n", ""))
