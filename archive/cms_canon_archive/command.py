@@ -164,6 +164,30 @@ def _with_name(rows: Iterable[Row]) -> Iterator[Dict[str, Any]]:
         yield {"file": name_of(row), **row}
 
 
+def _opened(url: str, wait: Optional[float], under: Optional[str] = None) -> Store:
+    """Opens an index to be asked, and says what it does not know. Ends the command if it has nothing at a path, of which `under` is the text."""
+    from .queries import gaps, is_known
+    from .store import Store
+    from .texts import name_of_text
+
+    store = Store(url, wait=wait)
+    found = gaps(store)
+    for line in found.lines():
+        click.echo(line, err=True)
+    click.get_current_context().obj = found
+    if under is not None and not is_known(store, under):
+        other = _text_of_path(os.path.realpath(name_of_text(under)))
+        hint = f", but at {other}" if is_known(store, other) else ""
+        raise click.UsageError(f"--under: the index has nothing at {under}{hint}")
+    return store
+
+
+def _is_whole() -> bool:
+    """Whether the index that was opened has all that it is of, as far as that is known."""
+    found = click.get_current_context().obj
+    return found is None or not any(found)
+
+
 def _with_why(form: Optional[str], row: Dict[str, Any]) -> Dict[str, Any]:
     """Adds the refusal as the command `cms-canon` says it, or why it cannot be read, which a table does not say again in the note."""
     if row["reason"] is not None:
@@ -284,7 +308,8 @@ def index_command(
     listed = _said_wrong(partial(manifest_in, manifest)) if manifest else None
     store = Store(url, makes=True, wait=wait)
     tops = tops_of(filter(is_there, paths))
-    plan = Plan(tops, Options(together, patience), jobs, scheduler, anew, verifies or bool(given), settings)
+    gone = [os.path.abspath(it) for it in paths if not os.path.lexists(it)]
+    plan = Plan(tops, Options(together, patience), jobs, scheduler, anew, verifies or bool(given), settings, gone)
     with Bar() as bar:
         done = index(store, plan, line_of, bar.show)
     store = Store(url, wait=wait)
@@ -310,6 +335,9 @@ def _settings(given: Sequence[str], excluded: Sequence[str], one_file_system: bo
         raise click.UsageError(f"--certificates: they have more than {MOST_OCTETS:,} octets")
     if len(excluded) > MOST_EXCLUDED or "" in excluded:
         raise click.UsageError(f"--exclude is given at most {MOST_EXCLUDED:,} times, and never empty")
+    for it in excluded:
+        if it.endswith("/") or "/" in it and it[0] not in "/*?[":
+            raise click.UsageError(f"--exclude {it}: a pattern with a slash is for whole paths, so that it begins with a slash or with *, and ends with no slash")
     return Settings(certificates, tuple(excluded), one_file_system)
 
 
@@ -523,21 +551,20 @@ def check_command(
         raise click.UsageError("--noted lists messages that fit, so that --content-in finds nothing for them")
     from . import queries, rechecking
     from .containers.found import State
-    from .store import Store
     from .writing import write
 
     differs = False
 
     def rows() -> Iterator[Dict[str, Any]]:
         nonlocal differs
-        store = Store(url, wait=wait)
+        store = _opened(url, wait, filters.under)
         is_any = all_of_them or filters.state is not None
         for row in _with_name(queries.noted(store, filters) if noted else rechecking.checked_in(store, folders, is_any, filters)):
             differs = differs or row["state"] == State.DIFFERS.value or row["verdict"] == "wrong" or row["wrong_times"] > 0
             yield row
 
     write(rows(), form, ("state", "findings", "verdict", "note", "file"))
-    sys.exit(1 if differs else 0)
+    sys.exit(1 if differs else 0 if _is_whole() else 3)
 
 
 def _verification(verifies: bool, given: Sequence[str]) -> Verification:
@@ -648,10 +675,9 @@ def signers_command(filters: Filters, url: str, wait: Optional[float], form: Opt
     Anybody can make a certificate with any name, and the signing time is what the signer claims.
     """
     from .queries import signers
-    from .store import Store
 
     columns = ("subject", "issuer", "serial", "key_identifier", "signing_time", "not_before", "not_after", "digest", "signature", "key", "bits")
-    _write_named(signers(Store(url, wait=wait), filters), form, (*columns, "number", "file"))
+    _write_named(signers(_opened(url, wait, filters.under), filters), form, (*columns, "number", "file"))
 
 
 @main.command("algorithms")
@@ -667,10 +693,9 @@ def algorithms_command(weak: bool, filters: Filters, url: str, wait: Optional[fl
     Of certificates these are the algorithms by which they are signed, and of manifests only what they compare by MD5 or SHA-1 alone.
     """
     from . import queries
-    from .store import Store
     from .writing import write
 
-    store = Store(url, wait=wait)
+    store = _opened(url, wait, filters.under)
     columns = ("digest", "signature", "key", "bits")
     if weak:
         _write_named(islice(queries.weak(store, filters), filters.limit), form, ("of", *columns, "number", "file"))
@@ -687,9 +712,8 @@ def algorithms_command(weak: bool, filters: Filters, url: str, wait: Optional[fl
 def others_command(filters: Filters, url: str, wait: Optional[float], form: Optional[str]) -> None:
     """List what is signed by another format, as XAdES or OpenPGP, and what is not looked into, as 7z."""
     from .queries import others
-    from .store import Store
 
-    _write_named(others(Store(url, wait=wait), filters), form, ("what", "form", "note", "file"))
+    _write_named(others(_opened(url, wait, filters.under), filters), form, ("what", "form", "note", "file"))
 
 
 @main.command("files")
@@ -702,9 +726,8 @@ def others_command(filters: Filters, url: str, wait: Optional[float], form: Opti
 def files_command(all_of_them: bool, filters: Filters, url: str, wait: Optional[float], form: Optional[str]) -> None:
     """List the files in which there is no message, what they are, and why they were not looked into."""
     from .queries import files
-    from .store import Store
 
-    _write_named(files(Store(url, wait=wait), all_of_them, filters), form, ("what", "form", "note", "length", "file"))
+    _write_named(files(_opened(url, wait, filters.under), all_of_them, filters), form, ("what", "form", "note", "length", "file"))
 
 
 @main.command("times")
@@ -716,9 +739,8 @@ def files_command(all_of_them: bool, filters: Filters, url: str, wait: Optional[
 def times_command(filters: Filters, url: str, wait: Optional[float], form: Optional[str]) -> None:
     """List the times that tokens vouch for, and whether each fits what it covers."""
     from .queries import times
-    from .store import Store
 
-    _write_named(times(Store(url, wait=wait), filters), form, ("time", "state", "policy", "serial", "digest", "number", "file"))
+    _write_named(times(_opened(url, wait, filters.under), filters), form, ("time", "state", "policy", "serial", "digest", "number", "file"))
 
 
 @main.command("renewal")
@@ -737,7 +759,6 @@ def renewal_command(by: str, file: Optional[Path], filters: Filters, url: str, w
     """
     from .policy import SHIPPED, policy_in
     from .renewal import day_of, renewal
-    from .store import Store
 
     try:
         day = day_of(by)
@@ -748,12 +769,12 @@ def renewal_command(by: str, file: Optional[Path], filters: Filters, url: str, w
 
     def rows() -> Iterator[Row]:
         nonlocal is_any
-        for row in renewal(Store(url, wait=wait), policy, day, filters):
+        for row in renewal(_opened(url, wait, filters.under), policy, day, filters):
             is_any = True
             yield row
 
     _write_named(rows(), form, ("why", "until", "subject", "number", "file"))
-    sys.exit(1 if is_any else 0)
+    sys.exit(1 if is_any else 0 if _is_whole() else 3)
 
 
 @main.command("same")
@@ -765,10 +786,9 @@ def renewal_command(by: str, file: Optional[Path], filters: Filters, url: str, w
 def same_command(file: str, url: str, wait: Optional[float], form: Optional[str]) -> None:
     """List the files that are the same message as one of FILE, whatever that keeps it in."""
     from . import exporting, queries
-    from .store import Store
     from .texts import shown
 
-    store = Store(url, wait=wait)
+    store = _opened(url, wait)
     messages = list(exporting.digests_in(file, sys.stdin.buffer.read() if file == "-" else None))
     for message in messages:
         if message.why_not is not None:
@@ -788,9 +808,8 @@ def digests_command(folder: Path, url: str, wait: Optional[float]) -> None:
     So it is found what stores share that are on different machines: 56 octets for each message, and its name.
     """
     from . import digests
-    from .store import Store
 
-    count = digests.write(Store(url, wait=wait), folder)
+    count = digests.write(_opened(url, wait), folder)
     click.echo(f"{count} digests written", err=True)
 
 
@@ -807,7 +826,6 @@ def duplicates_command(others: Tuple[Path, ...], folder: Optional[Path], url: st
     No copy of evidence should be deleted for that alone: the files may differ in their octets, and in what lies around the message.
     """
     from . import digests, queries
-    from .store import Store
     from .writing import write
 
     if folder is not None:
@@ -815,7 +833,7 @@ def duplicates_command(others: Tuple[Path, ...], folder: Optional[Path], url: st
         return
     if others:
         raise click.UsageError("folders of digests are named after --of")
-    for group in queries.duplicates(Store(url, wait=wait)):
+    for group in queries.duplicates(_opened(url, wait)):
         whole: List[Dict[str, Any]] = [{"digest": group.digest, "files": group.names}]
         each: List[Dict[str, Any]] = [{"digest": group.digest, "file": name} for name in group.names]
         write(whole if form == "json" else each, form, ("digest", "file"))
@@ -842,10 +860,9 @@ def refusals_command(filters: Filters, url: str, wait: Optional[float], form: Op
     Of what is refused it is said what it is, as a certificate or a key, if that is known. `cms-canon help convert` says what the reasons mean, and what to do.
     """
     from .queries import refusals
-    from .store import Store
     from .writing import write
 
-    write(map(partial(_with_why, form), _with_name(refusals(Store(url, wait=wait), filters))), form, ("why", "note", "file"))
+    write(map(partial(_with_why, form), _with_name(refusals(_opened(url, wait, filters.under), filters))), form, ("why", "note", "file"))
 
 
 @main.command("changed")
@@ -860,9 +877,8 @@ def changed_command(filters: Filters, url: str, wait: Optional[float], form: Opt
     A copy of them in DER would have other octets.
     """
     from .queries import changed
-    from .store import Store
 
-    _write_named(changed(Store(url, wait=wait), filters), form, ("file", "kind", "length"))
+    _write_named(changed(_opened(url, wait, filters.under), filters), form, ("file", "kind", "length"))
 
 
 # ---- files
@@ -944,12 +960,11 @@ def export_command(folder: Path, url: str, wait: Optional[float], form: Optional
     It is named by its SHA-256, as ab/cdef.., and written once for all files that are the same message. No file is written over.
     """
     from .exporting import export
-    from .store import Store
     from .texts import shown
     from .writing import write
 
     failed = 0
-    for copied in export(Store(url, wait=wait), folder):
+    for copied in export(_opened(url, wait), folder):
         failed += copied.why_not is not None
         if form == "json":
             write([_json_of(copied)], form, ())
@@ -970,15 +985,15 @@ def manifest_command(is_sha256sum: bool, is_bagit: bool, under: Optional[str], u
     The status is 1 if a file has to be left out, for which there is a line: one that could not be read, or whose name was cut.
     """
     from . import fixity
-    from .store import Store
 
     if is_sha256sum == is_bagit:
         raise click.UsageError("say one of --sha256sum and --bagit")
     if is_bagit and under is None:
         raise click.UsageError("--bagit is for the bag that --under names")
-    store, place = Store(url, wait=wait), None if under is None else _text_of_path(under)
+    place = None if under is None else _text_of_path(under)
+    store = _opened(url, wait, place)
     lines = fixity.bagit(store, place) if is_bagit and place is not None else fixity.sha256sum(store, place)
-    sys.exit(0 if _said_wrong(lambda: _write_lines(lines)) else 1)
+    sys.exit(0 if _said_wrong(lambda: _write_lines(lines)) and _is_whole() else 1)
 
 
 def _write_lines(lines: Iterable[Line]) -> bool:
@@ -1009,10 +1024,10 @@ def changes_command(since: Optional[str], under: Optional[str], limit: Optional[
     The status is 1 if any message that fitted does not fit any more, or is gone, whether it is listed or not.
     """
     from .history import BEGAN, changes, time_in
-    from .store import Store
     from .writing import write
 
-    store = Store(url, wait=wait)
+    place = None if under is None else _text_of_path(under)
+    store = _opened(url, wait, place)
     try:
         begin = int(store.about().get(BEGAN, "0")) if since is None else time_in(since)
     except ValueError as why:
@@ -1021,14 +1036,14 @@ def changes_command(since: Optional[str], under: Optional[str], limit: Optional[
 
     def rows() -> Iterator[Dict[str, Any]]:
         nonlocal is_worse, left
-        for it in changes(store, begin, None if under is None else _text_of_path(under)):
+        for it in changes(store, begin, place):
             is_worse = is_worse or it.is_worse
             if left is None or left > 0:
                 left = None if left is None else left - 1
                 yield it.row()
 
     write(_with_name(rows()), form, ("change", "time", "before", "after", "file"))
-    sys.exit(1 if is_worse else 0)
+    sys.exit(1 if is_worse else 0 if _is_whole() else 3)
 
 
 @main.command("verify-store")
@@ -1088,9 +1103,8 @@ def report_command(file: str, url: str, wait: Optional[float]) -> None:
     from . import report
     from .history import note_report
     from .pages import Page
-    from .store import Store
 
-    store = Store(url, wait=wait)
+    store = _opened(url, wait)
     summary = report.summary_of(store)
     Page(file).write(report.page_of(summary, store.name()))
     if why_not := note_report(url, wait, summary.time):

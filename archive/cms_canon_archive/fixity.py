@@ -4,7 +4,7 @@ from __future__ import annotations
 
 import os
 import re
-from typing import Dict, Iterator, NamedTuple, Optional, Sequence, Tuple
+from typing import Dict, Iterator, NamedTuple, Optional, Sequence, Set, Tuple
 
 import sqlalchemy as sa
 
@@ -34,13 +34,23 @@ class Line(NamedTuple):
 
 
 def _rows(store: Store, under: Optional[str]) -> Iterator[Row]:
-    """Gives the files of an index, and the folders that cannot be read, with their SHA-256."""
+    """Gives the files of an index, and the folders that cannot be read, with their SHA-256, and whether each lies below such a folder."""
     columns = (FILES.c.path, FILES.c.sha256, FILES.c.what)
     asked = sa.select(*columns).where(FILES.c.member == "").order_by(FILES.c.path)
     if under is not None:
         inside = under.rstrip("/") + "/"
         asked = asked.where((FILES.c.path == under) | ((FILES.c.path >= inside) & (FILES.c.path < inside[:-1] + "0")))
-    return store.asked(asked)
+    closed: Set[str] = set()
+    for row in store.asked(asked):
+        is_below = bool(closed) and any(it in closed for it in _folders_of(str(row["path"])))
+        if row["what"] == Class.UNREADABLE.value:
+            closed.add(str(row["path"]))
+        yield {**row, "is_below": is_below}
+
+
+def _folders_of(path: str) -> Iterator[str]:
+    while path != (path := os.path.dirname(path)):
+        yield path
 
 
 def sha256sum(store: Store, under: Optional[str]) -> Iterator[Line]:
@@ -75,6 +85,8 @@ def bagit(store: Store, bag: str) -> Iterator[Line]:
 
 
 def _why_not(row: Row) -> Optional[str]:
+    if row["is_below"]:
+        return "it lies in a folder that could not be read"
     if row["sha256"] is None:
         return "it could not be read" if row["what"] == Class.UNREADABLE.value else NOT_KNOWN
     return CUT if is_cut(str(row["path"])) else None
@@ -153,7 +165,7 @@ def differing(store: Store, manifest: Manifest, tops: Sequence[str]) -> Iterator
             wanted = left.pop(path, None)
             if wanted is None and manifest.is_to_list(path):
                 yield Difference("not listed", path)
-            elif wanted is not None and row["sha256"] is None:
+            elif wanted is not None and (row["sha256"] is None or row["is_below"]):
                 yield Difference("not known", path)
             elif wanted is not None and bytes.fromhex(str(row["sha256"])) != wanted:
                 yield Difference("differs", path)

@@ -14,15 +14,15 @@ from typing import TYPE_CHECKING, Any, Dict, Iterator, List, NamedTuple, Optiona
 
 import sqlalchemy as sa
 
-from .containers.found import Class, State
-from .tables import HISTORY, IS_NOT_COMPARED, KEPT, PARTS, PATH, PLACES
+from .containers.found import GOOD, Class, State
+from .tables import HISTORY, IS_NOT_COMPARED, IS_TAKEN, IS_TO_DO, KEPT, PARTS, PATH, PLACES
 
 if TYPE_CHECKING:
     from .store import Store
 
 ASKED = 900  # rows in a statement: SQLite before 3.32 takes 999 values
 
-BEGAN = "began"  # the name under which a store says when the last index began, in seconds since 1970
+BEGAN, ENDED = "began", "ended"  # the names under which a store says when the last index began, in seconds since 1970, and which one has ended
 REPORTED = "reported"  # the same of when the last report was made
 TOGETHER = 5000  # rows that are compared in one transaction
 
@@ -65,12 +65,15 @@ _IS_NOW = (PLACES.c.part == PARTS.c.id) & (PLACES.c.file == _FILE) & (PLACES.c.m
 
 def _is_same(after: Any) -> Any:
     """Returns the condition that a row says what the one of the history said. A SHA-256 that older tables did not have is no difference."""
-    same = [after[it].is_not_distinct_from(HISTORY.c[it]) for it in KEPT if it not in ("sha256", "stored")]
+    same = [after[it].is_not_distinct_from(HISTORY.c[it]) for it in KEPT if it not in ("sha256", "note", "stored")]
     return sa.and_(*same, (after.sha256 == HISTORY.c.sha256) | after.sha256.is_(None) | HISTORY.c.sha256.is_(None))
 
 
 def compare(engine: sa.engine.Engine) -> None:
-    """Drops from the history what is stored again as it was, and has the stored rows say since when they are so."""
+    """Drops from the history what is stored again as it was, and has the stored rows say since when they are so. What is yet to be read may still come."""
+    with engine.connect() as connection:
+        if connection.execute(sa.select(PARTS.c.id).where(IS_TO_DO | IS_TAKEN).limit(1)).first() is not None:
+            return
     while _compare_once(engine):
         pass
     with engine.begin() as connection:
@@ -116,6 +119,11 @@ def time_in(text: str) -> int:
         raise wrong from None
 
 
+_GOOD = [it.value for it in GOOD]
+_WRONG_TIME = re.compile(f"token [0-9./]*: {State.DIFFERS.value}")
+_READABLE = "readable"
+
+
 class Change(str, Enum):
     """What became of a file, or of what is in it."""
 
@@ -134,23 +142,32 @@ class Row(NamedTuple):
     sha256: Optional[str]
     state: Optional[str]
     verdict: Optional[str]
+    note: Optional[str]
     stored: Optional[int]
 
     @property
-    def is_good(self) -> bool:
-        """Whether it is a message that fits, and no signature of it is known to be wrong."""
-        return self.state == State.FITS.value and self.verdict != "wrong"
+    def fit(self) -> int:
+        """How well it fits: 2 if it does, 1 if in part or an earlier revision, and 0 if not, if that is not known, or if a signature is wrong."""
+        if self.verdict == "wrong" or self.state not in _GOOD:
+            return 0
+        return 2 if self.state == State.FITS.value else 1
+
+    @property
+    def has_wrong_time(self) -> bool:
+        """Whether a token in an unsigned attribute does not fit."""
+        return _WRONG_TIME.search(self.note or "") is not None
 
     @property
     def text(self) -> str:
         """What it is, as `fits`, with what was found of its signatures if they were verified."""
-        said = self.state or self.what
-        return f"{said}, signatures {self.verdict}" if self.verdict else said
+        verdict = f"signatures {self.verdict}" if self.verdict else ""
+        return ", ".join(filter(None, (self.state or self.what, verdict, "a time-stamp does not fit" if self.has_wrong_time else "")))
 
     def is_same(self, other: Row) -> bool:
         """Whether both say the same. A SHA-256 that older tables did not have is no difference."""
         is_known = self.sha256 is not None and other.sha256 is not None
-        return self._replace(sha256=None, stored=None) == other._replace(sha256=None, stored=None) and (not is_known or self.sha256 == other.sha256)
+        mine, others = (it._replace(sha256=None, note=None, stored=None) for it in (self, other))
+        return mine == others and (not is_known or self.sha256 == other.sha256)
 
 
 class Changed(NamedTuple):
@@ -163,11 +180,18 @@ class Changed(NamedTuple):
     member: str
     before: Optional[Row]
     after: Optional[Row]
+    is_folder: bool = False
+    """Whether it is a folder, of which there is a row as long as it cannot be read."""
 
     @property
     def is_worse(self) -> bool:
-        """Whether it was a message that fits, and is none any more."""
-        return self.before is not None and self.before.is_good and not (self.after is not None and self.after.is_good)
+        """Whether anything was known to be good that is not any more: a message that fits, a signature that is right, or a time-stamp that fits."""
+        before, after = self.before, self.after
+        if before is None:
+            return self.is_folder  # below which nothing is known any more
+        if after is None:
+            return before.fit > 0 or before.verdict == "right"
+        return after.fit < before.fit or (before.verdict == "right" and after.verdict != "right") or (after.has_wrong_time and not before.has_wrong_time)
 
     def row(self) -> Dict[str, Any]:
         """Returns it as a list has it."""
@@ -175,7 +199,7 @@ class Changed(NamedTuple):
         time = None if self.time is None else datetime.fromtimestamp(self.time, timezone.utc).strftime("%Y-%m-%dT%H:%M:%SZ")
         return {
             **{"change": self.change.value, "time": time, "path": self.path, "member": self.member, "is_worse": self.is_worse},
-            **{"before": before and before.text, "after": after and after.text},
+            **{"before": before and before.text, "after": _READABLE if self.is_folder and after is None else after and after.text},
             **{"sha256_before": before and before.sha256, "sha256_after": after and after.sha256},
         }
 
@@ -198,14 +222,18 @@ def _ended(store: Store, since: int, under: Optional[str]) -> Iterator[Changed]:
         after = _after(store, [row["id"] for row in some])
         for row in some:
             before, now = _row(row), after.get(row["id"])
-            if now is None or not before.is_same(now):
-                name = f"{row['folder']}{row['file']}" if row["file"] else row["folder"].rstrip("/") or "/"
-                yield Changed(_change(before, now, row["member"]), row["ended"], name, row["member"], before, now)
+            is_folder = row["file"] == ""
+            if now is not None and before.is_same(now):
+                if not row["is_compared"]:
+                    continue
+                now = None  # it was gone when an index ended, and came back as it was
+            name = f"{row['folder']}{row['file']}" if not is_folder else row["folder"].rstrip("/") or "/"
+            yield Changed(_change(before, now, row["member"], is_folder), row["ended"], name, row["member"], before, now, is_folder)
 
 
-def _change(before: Row, after: Optional[Row], member: str) -> Change:
+def _change(before: Row, after: Optional[Row], member: str, is_folder: bool) -> Change:
     if after is None:
-        return Change.GONE
+        return Change.STATE if is_folder else Change.GONE
     is_other = (before.length, before.what) != (after.length, after.what) or (before.sha256 or after.sha256) != (after.sha256 or before.sha256)
     return Change.CHANGED if member == "" and is_other else Change.STATE
 
@@ -228,15 +256,17 @@ def _after(store: Store, ids: List[int]) -> Dict[int, Row]:
 
 
 def _begun(store: Store, since: int, under: Optional[str]) -> Iterator[Changed]:
-    columns = (PATH.label("path"), PLACES.c.member, *(PLACES.c[it] for it in Row._fields))
+    is_folder = ((PARTS.c.name == "") & (PLACES.c.file == "")).label("is_folder")
+    columns = (PATH.label("path"), PLACES.c.member, is_folder, *(PLACES.c[it] for it in Row._fields))
     order = (PLACES.c.part, PLACES.c.file, PLACES.c.member)  # in which they are stored: to sort a million paths takes longer than all else
     for row in store.asked(_new_since(since, *columns).where(_is_below(PATH, under)).order_by(*order)):
-        yield Changed(Change.NEW, row["stored"], row["path"], row["member"], None, _row(row))
+        yield Changed(Change.NEW, row["stored"], row["path"], row["member"], None, _row(row), bool(row["is_folder"]))
 
 
 def _new_since(since: int, *columns: Any) -> Any:
     own = (HISTORY.c.folder == PARTS.c.path) & (HISTORY.c.file == PARTS.c.name.concat(PLACES.c.file)) & (HISTORY.c.member == PLACES.c.member)
-    was_there = sa.exists().where(own, HISTORY.c.ended >= since).correlate(PARTS, PLACES)
+    came_back = HISTORY.c.is_compared & _is_same(PLACES.c)
+    was_there = sa.exists().where(own, HISTORY.c.ended >= since, ~came_back).correlate(PARTS, PLACES)
     is_listed = (PLACES.c.member == "") | (PLACES.c.what == Class.MESSAGE.value)
     return sa.select(*columns).select_from(PLACES.join(PARTS, PARTS.c.id == PLACES.c.part)).where(PLACES.c.stored >= since, is_listed, ~was_there)
 

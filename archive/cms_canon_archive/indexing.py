@@ -22,9 +22,9 @@ from .processes import Processes
 from .reading import Part
 from .settings import NO_SETTINGS, Settings
 from .settings import put as put_settings
-from .history import BEGAN
+from .history import BEGAN, ENDED
 from .store import Store
-from .tables import IS_TO_DO, OF_PARTS, PARTS, Now, insertion
+from .tables import IS_TAKEN, IS_TO_DO, OF_PARTS, PARTS, PLACES, Now, insertion
 from .texts import path_text_of, text_of
 from .versions import own_version
 from .watching import Counts, State, Watch, counts_in, state_of
@@ -49,11 +49,13 @@ Show = Callable[[State, Counts], None]  # shows where an index is, and what was 
 # ---- what is to be done
 
 
-def put_in(store: Store, tops: Sequence[str], anew: bool = False, verifies: bool = False, settings: Settings = NO_SETTINGS) -> int:
-    """Has the parts of these folders and files done, and done again if they are done or being done. Returns how many are to be done, at most 10,000."""
+def put_in(
+    store: Store, tops: Sequence[str], anew: bool = False, verifies: bool = False, settings: Settings = NO_SETTINGS, gone: Sequence[str] = ()
+) -> int:
+    """Has the parts of these folders and files done, and done again if they are done or being done, and likewise what is stored of paths that are gone.
+    Returns how many are to be done, at most 10,000."""
 
-    with store.engine.connect() as connection:
-        began = int(connection.execute(sa.select(Now())).scalar_one())
+    began = _beginning(store)
 
     def put() -> int:
         with store.engine.begin() as connection:
@@ -62,6 +64,9 @@ def put_in(store: Store, tops: Sequence[str], anew: bool = False, verifies: bool
             how = {"anew": anew, "verifies": verifies, "settings": put_settings(connection, settings)}
             for top in tops:
                 _put_top(connection, top, os.path.isdir(top), how)
+            for top in gone:
+                if (is_folder := _was_folder(connection, top)) is not None:
+                    _put_top(connection, top, is_folder, how)
             some = sa.select(PARTS.c.id).where(IS_TO_DO).limit(_MOST_COUNTED).subquery()
             return int(connection.execute(sa.select(sa.func.count()).select_from(some)).scalar_one())
 
@@ -70,9 +75,29 @@ def put_in(store: Store, tops: Sequence[str], anew: bool = False, verifies: bool
     return to_do
 
 
+def _beginning(store: Store) -> int:
+    """Returns when this index begins, in seconds since 1970; or the one before, if that has not ended, so that what it found is not lost to who asks."""
+    about = store.about()
+    if BEGAN in about and about.get(ENDED) != about[BEGAN]:
+        return int(about[BEGAN])
+    with store.engine.connect() as connection:
+        return int(connection.execute(sa.select(Now())).scalar_one())
+
+
 def _noted(top: str) -> str:
     """Returns the text by which a store notes a path that is indexed."""
     return texts_of_folder(top)[0].rstrip("/") or "/" if os.path.isdir(top) else path_text_of(top)
+
+
+def _was_folder(connection: sa.engine.Connection, path: str) -> Optional[bool]:
+    """Whether a path is stored as that of a folder; None if it is not stored at all."""
+    inside, folder = texts_of_folder(path)[0], texts_of_folder(os.path.dirname(path))[0]
+    if connection.execute(sa.select(PARTS.c.id).where(PARTS.c.path == inside).limit(1)).first() is not None:
+        return True
+    name = text_of(os.path.basename(path))
+    is_file = sa.exists().where(PLACES.c.part == PARTS.c.id, PLACES.c.file == name)
+    own = sa.select(PARTS.c.id).where(PARTS.c.path == folder, (PARTS.c.name == name) | is_file).limit(1)
+    return None if connection.execute(own).first() is None else False
 
 
 def _put_top(connection: sa.engine.Connection, top: str, is_folder: bool, how: Dict[str, Any]) -> None:
@@ -106,6 +131,9 @@ def finish(store: Store, tops: Iterable[str], before: Counts) -> Done:
     store.finish()
     _let_go(store)
     store.note_index(map(_noted, tops), cms_canon.__version__)
+    about = store.about()
+    if BEGAN in about and not _is_any_left(store):
+        store.note({ENDED: about[BEGAN]})
     with store.engine.connect() as connection:
         counts = counts_in(connection).since(before)
     store.close()  # or SQLite would leave its log beside it
@@ -123,6 +151,8 @@ class Plan(NamedTuple):
     anew: bool
     verifies: bool
     settings: Settings = NO_SETTINGS
+    gone: Sequence[str] = ()
+    """Paths that were named, and at which nothing is: what is stored of them is gone too."""
 
 
 def index(store: Store, plan: Plan, line_of: Callable[[Exception], Optional[str]], show: Show) -> Done:
@@ -134,7 +164,7 @@ def index(store: Store, plan: Plan, line_of: Callable[[Exception], Optional[str]
     cluster = _cluster_of(plan.scheduler) if plan.scheduler else None
     with store.engine.connect() as connection:
         before = counts_in(connection)
-    to_do = put_in(store, plan.tops, plan.anew, plan.verifies, plan.settings)
+    to_do = put_in(store, plan.tops, plan.anew, plan.verifies, plan.settings, plan.gone)
     store.close()  # or processes begun now would have its connections
     if cluster is not None:
         _by_cluster(watch, cluster, plan, partial(show_since, show, before))
@@ -278,6 +308,10 @@ def _by_others(watch: Watch, plan: Plan, show: Callable[[State], None]) -> None:
         if not state.workers and not is_said and time.monotonic() - began > _GRACE / 2:
             print(f"no worker has begun: on a machine that sees the files, cms-canon-archive work --store '{for_others(watch.url)}'", file=sys.stderr)
             is_said = True
+
+
+def _is_any_left(store: Store) -> bool:
+    return any(store.asked(sa.select(PARTS.c.id).where(IS_TO_DO | IS_TAKEN).limit(1)))
 
 
 def _let_go(store: Store) -> None:

@@ -16,7 +16,8 @@ from .containers.names import READERS_DIFFER
 from .filters import ALL, Filters
 from .reading import Row
 from .store import FILES, SIGNERS, TIMES, Store
-from .tables import PLACE_TIMES, PLACES, of_same_place, shown
+from .tables import HISTORY, IS_TAKEN, IS_TO_DO, PARTS, PLACE_TIMES, PLACES, of_same_place, shown
+from .texts import folder_and_name
 
 WEAK_DIGESTS = ("md5", "sha1")
 FEWEST_BITS = 2048  # of a key of RSA or DSA that is not weak
@@ -86,6 +87,40 @@ def totals(store: Store) -> Totals:
         refused=sum(count for what, *_, count in rows if what in _REFUSED),
         unreadable=sum(count for what, *_, count in rows if what == Class.UNREADABLE.value),
     )
+
+
+class Gaps(NamedTuple):
+    """What an index does not know."""
+
+    parts: int
+    """Folders and files that are yet to be read."""
+    folders: int
+    """Folders that could not be read, below which all is as it was before."""
+
+    def lines(self) -> Iterator[str]:
+        """Gives a line for each kind of gap."""
+        if self.parts:
+            yield f"{self.parts:,} parts of the archive are yet to be read: `cms-canon-archive index` goes on with them"
+        if self.folders:
+            yield f"{self.folders:,} folders could not be read, and what lies below them is said as it was before: `cms-canon-archive refusals` names them"
+
+
+def gaps(store: Store) -> Gaps:
+    """Counts what an index does not know."""
+    left = sum(int(row["count"]) for it in (IS_TO_DO, IS_TAKEN) for row in store.asked(sa.select(sa.func.count().label("count")).select_from(PARTS).where(it)))
+    own = (PLACES.c.part == PARTS.c.id) & (PLACES.c.file == "") & (PLACES.c.member == "")
+    (folders,) = store.asked(sa.select(sa.func.count().label("count")).select_from(PARTS.join(PLACES, own)).where(PARTS.c.name == ""))
+    return Gaps(left, int(folders["count"]))
+
+
+def is_known(store: Store, path: str) -> bool:
+    """Whether an index has anything at a path or below it, or had."""
+    inside, (folder, name) = path.rstrip("/") + "/", folder_and_name(path)
+    end = inside[:-1] + "0"
+    is_file = sa.exists().where(PLACES.c.part == PARTS.c.id, PLACES.c.file == name).correlate(PARTS)
+    is_part = ((PARTS.c.path >= inside) & (PARTS.c.path < end)) | ((PARTS.c.path == folder) & ((PARTS.c.name == name) | is_file))
+    was = ((HISTORY.c.folder >= inside) & (HISTORY.c.folder < end)) | ((HISTORY.c.folder == folder) & (HISTORY.c.file == name))
+    return any(any(store.asked(sa.select(table.c.id).where(condition).limit(1))) for table, condition in ((PARTS, is_part), (HISTORY, was)))
 
 
 def name_of(row: Row) -> str:

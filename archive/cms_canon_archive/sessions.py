@@ -287,7 +287,8 @@ class Session:
             return 0
         with self.transaction() as connection:
             dead = self._dead_among(connection, [int(it) for it in holders if it is not None])
-            lost = sa.update(PARTS).where(IS_TAKEN, nobody | PARTS.c.holder.in_(dead)).values(state=PartState.TO_DO)
+            values = {"state": PartState.TO_DO, "again": False}  # since nothing of it is stored, to do it once is enough
+            lost = sa.update(PARTS).where(IS_TAKEN, nobody | PARTS.c.holder.in_(dead)).values(**values)
             return int(connection.execute(lost).rowcount)
 
     def give_back(self, parts: Sequence[Held]) -> None:
@@ -298,7 +299,7 @@ class Session:
     def _give_back(self, connection: sa.engine.Connection, parts: Sequence[Held]) -> None:
         if parts:
             own = PARTS.c.id.in_([it.id for it in parts]) & (PARTS.c.state == 1) & (PARTS.c.holder == self.number)
-            connection.execute(sa.update(PARTS).where(own).values(state=PartState.TO_DO, tries=PARTS.c.tries - 1))
+            connection.execute(sa.update(PARTS).where(own).values(state=PartState.TO_DO, again=False, tries=PARTS.c.tries - 1))
 
     def give_up(self, parts: Sequence[Held]) -> None:
         """Has each of these parts done by itself, since the store refused them together."""

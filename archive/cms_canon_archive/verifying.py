@@ -14,6 +14,7 @@ from typing import Any, Dict, Iterable, Iterator, List, NamedTuple, Optional, Se
 
 import sqlalchemy as sa
 
+from .containers.found import Class
 from .containers.packed import why_of
 from .folders import NOT_THERE, Listing, is_gone, is_left_out, listed, path_named_by, path_of, texts_of_folder
 from .judging import BY_MESSAGE, NOT_VERIFIED, Verification
@@ -355,6 +356,8 @@ def _difference(stored: Optional[Row], came: Optional[Row]) -> str:
         return NOT_STORED
     if came is None:
         return GONE
+    if came["what"] == Class.UNREADABLE.value and stored["what"] != came["what"]:
+        return f"it cannot be read: {came['error']}"
     names = [it for it in _COMPARED if stored[it] != came[it]]
     said = [it for it in _SAID if (stored[it] is None) != (came[it] is None)]  # whose words may be those of the machine
     lists = [it for it in LISTS if _by_number(stored[it]) != _by_number(came[it])]
