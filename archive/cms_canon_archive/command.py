@@ -79,8 +79,9 @@ def _filtered(*options: Callable[..., Any]) -> Callable[[Callable[..., None]], C
 def _text_of_path(path: str) -> str:
     """Returns a path as a store has it, which need not be there any more."""
     from .texts import path_text_of
+    from .walking import place_of
 
-    return path_text_of(os.path.realpath(path) if os.path.islink(path) else os.path.abspath(path))
+    return path_text_of(place_of(path))
 
 
 def _filters_of(given: Dict[str, Any]) -> Filters:
@@ -99,6 +100,11 @@ def _filters_of(given: Dict[str, Any]) -> Filters:
 _certificates = click.option(
     "--certificates", "given", multiple=True, type=click.Path(exists=True), metavar="PATH", help="Verify by the certificates in this file or folder, and no others."
 )
+
+
+def _is_of_output(error: Exception) -> bool:
+    """Whether an error is of the standard output: one of a file has its name."""
+    return isinstance(error, OSError) and error.filename is None and error.errno in (errno.EPIPE, errno.ENOSPC, errno.EBADF, errno.EIO, errno.EFBIG)
 
 
 class _Commands(click.Group):
@@ -124,7 +130,7 @@ class _Commands(click.Group):
         except ValueError as error:
             raise click.ClickException(str(error))
         except Exception as error:
-            line = None if isinstance(error, OSError) and error.errno == errno.EPIPE else line_of(error)
+            line = None if _is_of_output(error) else line_of(error)
             if line is None:
                 raise
             raise click.ClickException(line)
@@ -1021,7 +1027,7 @@ def _write_lines(lines: Iterable[Line]) -> bool:
 def changes_command(since: Optional[str], under: Optional[str], limit: Optional[int], url: str, wait: Optional[float], form: Optional[str]) -> None:
     """List what changed: files that are new, gone or changed, and messages that are in another state.
 
-    The status is 1 if any message that fitted does not fit any more, or is gone, whether it is listed or not.
+    The status is 1 if anything that was known to be good is not any more, as a message that fitted its document, whether it is listed or not.
     """
     from .history import BEGAN, changes, time_in
     from .writing import write

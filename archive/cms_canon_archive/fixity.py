@@ -13,6 +13,7 @@ from .faults import Complaint
 from .reading import Row
 from .store import FILES, Store
 from .texts import is_cut, name_of_text, path_text_of
+from .walking import place_of
 
 MOST = 1 << 30  # octets of a manifest that is compared: its names are in memory
 _LINE = re.compile(rb"(\\?)([0-9a-fA-F]{64})(?: [ *]?|\t)(.+)", re.DOTALL)
@@ -118,11 +119,15 @@ def manifest_in(path: str) -> Manifest:
         raise Complaint(f"{path}: {why.strerror}") from None
     if len(octets) > MOST:
         raise Complaint(f"{path}: it has more than {MOST:,} octets")
-    folder = os.path.dirname(os.path.abspath(path))
+    if b"\0" in octets:
+        raise Complaint(f"{path}: it has a NUL, as a list that `sha256sum -z` writes: only lines are read")
+    folder = place_of(os.path.dirname(os.path.abspath(path)))
     lines = octets.split(b"\n")
-    is_of_bag = os.path.basename(path) == "manifest-sha256.txt"
+    is_of_bag = os.path.basename(path) == "manifest-sha256.txt" and os.path.exists(os.path.join(folder, "bagit.txt"))
     digests: Dict[str, bytes] = {}
-    for number, line in enumerate(lines[:-1] if lines[-1] == b"" else lines, 1):
+    for number, line in enumerate(lines, 1):
+        if not line.strip():
+            continue
         name, digest = _read(line.rstrip(b"\r"), is_of_bag, f"{path}: line {number}")
         text = path_text_of(os.path.normpath(os.path.join(folder, os.fsdecode(name))))
         if digests.setdefault(text, digest) != digest:
@@ -169,4 +174,9 @@ def differing(store: Store, manifest: Manifest, tops: Sequence[str]) -> Iterator
                 yield Difference("not known", path)
             elif wanted is not None and bytes.fromhex(str(row["sha256"])) != wanted:
                 yield Difference("differs", path)
-    yield from (Difference("missing", path) for path in sorted(left))
+    yield from (Difference("not indexed" if _is_there(path) else "missing", path) for path in sorted(left))
+
+
+def _is_there(path: str) -> bool:
+    """Whether there is anything at a path, which an index may have left out, or was not told to read."""
+    return not is_cut(path) and os.path.lexists(name_of_text(path))

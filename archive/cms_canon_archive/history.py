@@ -10,7 +10,7 @@ import re
 from datetime import datetime, timezone
 from enum import Enum
 from itertools import islice
-from typing import TYPE_CHECKING, Any, Dict, Iterator, List, NamedTuple, Optional
+from typing import TYPE_CHECKING, Any, Dict, Iterator, List, NamedTuple, Optional, Tuple
 
 import sqlalchemy as sa
 
@@ -24,7 +24,6 @@ ASKED = 900  # rows in a statement: SQLite before 3.32 takes 999 values
 
 BEGAN, ENDED = "began", "ended"  # the names under which a store says when the last index began, in seconds since 1970, and which one has ended
 REPORTED = "reported"  # the same of when the last report was made
-TOGETHER = 5000  # rows that are compared in one transaction
 
 _COLUMNS = ", ".join(KEPT)
 _IN_SQLITE = f"""CREATE TRIGGER kept AFTER DELETE ON places FOR EACH ROW BEGIN
@@ -72,7 +71,7 @@ def _is_same(after: Any) -> Any:
 def compare(engine: sa.engine.Engine) -> None:
     """Drops from the history what is stored again as it was, and has the stored rows say since when they are so. What is yet to be read may still come."""
     with engine.connect() as connection:
-        if connection.execute(sa.select(PARTS.c.id).where(IS_TO_DO | IS_TAKEN).limit(1)).first() is not None:
+        if any(connection.execute(sa.select(PARTS.c.id).where(it).limit(1)).first() is not None for it in (IS_TO_DO, IS_TAKEN)):
             return
     while _compare_once(engine):
         pass
@@ -82,24 +81,25 @@ def compare(engine: sa.engine.Engine) -> None:
 
 def _compare_once(engine: sa.engine.Engine) -> bool:
     """Compares the last row of each place, and returns whether any was dropped, so that the one before it is the last now."""
-    columns = (HISTORY.c.id, HISTORY.c.stored, PLACES.c.part, PLACES.c.file, PLACES.c.member)
-    joined = HISTORY.join(PARTS, _IS_OF_PART).join(PLACES, _IS_NOW)
-    asked = sa.select(*columns).select_from(joined).where(IS_NOT_COMPARED, _NEXT.is_(None), _is_same(PLACES.c)).order_by(HISTORY.c.id).limit(TOGETHER)
+    asked = sa.select(HISTORY).where(IS_NOT_COMPARED).order_by(HISTORY.c.id).limit(ASKED)
     last, any_dropped = 0, False
     while True:
         with engine.begin() as connection:
-            same = connection.execute(asked.where(HISTORY.c.id > last)).all()
-            if not same:
+            some = connection.execute(asked.where(HISTORY.c.id > last)).mappings().all()
+            if not some:
                 return any_dropped
-            _put_back(connection, same)
-        last, any_dropped = same[-1].id, True
+            after = _after_in(connection, [it["id"] for it in some])
+            same = [(it, after[it["id"]]) for it in some if it["id"] in after and after[it["id"]].is_now and _row(it).is_same(after[it["id"]].row)]
+            if same:
+                _put_back(connection, same)
+        last, any_dropped = some[-1]["id"], any_dropped or bool(same)
 
 
-def _put_back(connection: sa.engine.Connection, same: List[Any]) -> None:
+def _put_back(connection: sa.engine.Connection, same: List[Tuple[Any, After]]) -> None:
     own = [PLACES.c[it] == sa.bindparam(f"own_{it}") for it in ("part", "file", "member")]
-    since = [{"since": it.stored, **{f"own_{name}": getattr(it, name) for name in ("part", "file", "member")}} for it in same]
+    since = [{"since": it["stored"], "own_part": now.part, "own_file": now.file, "own_member": it["member"]} for it, now in same]
     connection.execute(sa.update(PLACES).where(*own).values(stored=sa.bindparam("since")), since)
-    connection.execute(sa.delete(HISTORY).where(HISTORY.c.id == sa.bindparam("own_id")), [{"own_id": it.id} for it in same])
+    connection.execute(sa.delete(HISTORY).where(HISTORY.c.id.in_([it["id"] for it, _ in same])))
 
 
 # ---- what is asked of it
@@ -249,10 +249,33 @@ def _row(row: Any) -> Row:
 
 def _after(store: Store, ids: List[int]) -> Dict[int, Row]:
     """Returns what came after each of these rows of the history, or is now; nothing of what is gone."""
+    with store.engine.connect() as connection:
+        return {number: it.row for number, it in _after_in(connection, ids).items()}
+
+
+class After(NamedTuple):
+    """What came after a row of the history."""
+
+    row: Row
+    is_now: bool
+    """Whether it is what is stored now; otherwise it is a later row of the history."""
+    part: int = 0
+    file: str = ""
+
+
+_BY_KEYS = "SET LOCAL enable_seqscan = off; SET LOCAL enable_hashjoin = off; SET LOCAL enable_mergejoin = off"  # before there are statistics of the tables
+
+
+def _after_in(connection: sa.engine.Connection, ids: List[int]) -> Dict[int, After]:
+    if connection.dialect.name == "postgresql":
+        connection.exec_driver_sql(_BY_KEYS)
     is_one = HISTORY.c.id.in_(ids)
-    now = sa.select(HISTORY.c.id, *(PLACES.c[it] for it in Row._fields)).select_from(HISTORY.join(PARTS, _IS_OF_PART).join(PLACES, _IS_NOW))
-    later = sa.select(HISTORY.c.id, *(_LATER.c[it] for it in Row._fields)).select_from(HISTORY.join(_LATER, _LATER.c.id == _NEXT))
-    return {row["id"]: _row(row) for asked in (now, later) for row in store.asked(asked.where(is_one))}
+    now = sa.select(HISTORY.c.id, PLACES.c.part, PLACES.c.file, *(PLACES.c[it] for it in Row._fields))
+    now = now.select_from(HISTORY.join(PARTS, _IS_OF_PART).join(PLACES, _IS_NOW)).where(is_one)
+    later = sa.select(HISTORY.c.id, *(_LATER.c[it] for it in Row._fields)).select_from(HISTORY.join(_LATER, _LATER.c.id == _NEXT)).where(is_one)
+    found = {it["id"]: After(_row(it), True, it["part"], it["file"]) for it in connection.execute(now).mappings()}
+    found.update((it["id"], After(_row(it), False)) for it in connection.execute(later).mappings())
+    return found
 
 
 def _begun(store: Store, since: int, under: Optional[str]) -> Iterator[Changed]:

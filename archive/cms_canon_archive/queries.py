@@ -100,9 +100,11 @@ class Gaps(NamedTuple):
     def lines(self) -> Iterator[str]:
         """Gives a line for each kind of gap."""
         if self.parts:
-            yield f"{self.parts:,} parts of the archive are yet to be read: `cms-canon-archive index` goes on with them"
+            parts, them = ("parts of the archive are", "them") if self.parts > 1 else ("part of the archive is", "it")
+            yield f"{self.parts:,} {parts} yet to be read: `cms-canon-archive index` goes on with {them}"
         if self.folders:
-            yield f"{self.folders:,} folders could not be read, and what lies below them is said as it was before: `cms-canon-archive refusals` names them"
+            folders, them = ("folders", "them") if self.folders > 1 else ("folder", "it")
+            yield f"{self.folders:,} {folders} could not be read, and what lies below is said as it was before: `cms-canon-archive refusals` names {them}"
 
 
 def gaps(store: Store) -> Gaps:

@@ -70,12 +70,18 @@ def _in_folder(top: str) -> Iterator[Entry]:
         left += reversed(folders)
 
 
+def place_of(path: str) -> str:
+    """Returns the path by which a store has what is named: an absolute one, or if it is a symbolic link, that of what it points to."""
+    path = os.path.abspath(path)  # without a slash at its end, by which a link would be no link
+    return os.path.realpath(path) if os.path.islink(path) else path
+
+
 def tops_of(paths: Iterable[str]) -> List[str]:
     """Returns the paths that are named without those that lie in another one of them, so that no file is given twice.
 
     A symbolic link that is named is followed: what it points to is taken in its place.
     """
-    names = {os.path.realpath(path) if os.path.islink(path) else os.path.abspath(path) for path in paths}
+    names = set(map(place_of, paths))
     folders = set(filter(os.path.isdir, names))
     return [it for it in sorted(names) if not any(above in folders and is_reached(it, above) for above in _folders_above(it))]
 

@@ -1,10 +1,11 @@
 """The SHA-256 of the files of an index: what is stored is that of the octets, whatever a file is, and other programs take the lists of them.
 
-`sha256sum` says what the digests are and checks the lists, and the package bagit of Debian checks a bag. What rots without a sign is found.
+`sha256sum` says what the digests are and checks the lists. What rots without a sign is found.
 """
 
 import json
 import os
+import re
 import shutil
 import subprocess
 import sys
@@ -153,22 +154,26 @@ def test_missing_manifest(home, folder):
         count_if(f"{words[1]}", "--manifest" in said and not (home / "index.db").exists(), said)
 
 
-@needs("bagit")
-def test_bagit(home, new_store):
-    """A bag with the list as its manifest is valid for the program of the Library of Congress, and one that is changed is not; its own list is compared."""
-    import bagit
+def files_of_bag(bag):
+    """Returns the files in the manifest of a bag with their SHA-256, read as RFC 8493 has it: a digest, blanks, and a path in which %, CR and LF are escaped."""
+    lines = (bag / "manifest-sha256.txt").read_bytes().decode().split("\n")
+    assert lines.pop() == ""
+    pairs = (re.fullmatch(r"([0-9a-f]{64})  (.+)", it, re.S).groups() for it in lines)
+    return {re.sub("%(0A|0D|25)", lambda it: chr(int(it[1], 16)), path): digest for digest, path in pairs}
 
+
+def test_bagit(home, new_store):
+    """The manifest of a bag has the files of its payload, whatever their names are, and is compared as that of a bag."""
     bag = home / "bag"
-    names = {it: octets for it, octets in ODD.items() if it != "octet \udcff"}  # which that program does not take
-    write_files(bag / "data", {**names, "deep/er/file": DOCUMENT})
-    command(home, "index", bag / "data", "--store", new_store)
+    write_files(bag / "data", {**{it: octets for it, octets in ODD.items() if it != "octet \udcff"}, "deep/er/file": DOCUMENT})
+    write_files(bag, {"outside": b"x"})
+    command(home, "index", bag, "--store", new_store)
     (bag / "bagit.txt").write_text("BagIt-Version: 1.0\nTag-File-Character-Encoding: UTF-8\n")
     (bag / "manifest-sha256.txt").write_bytes(ran(home, "manifest", "--bagit", "--under", bag, "--store", new_store, text=False).stdout)
-    bagit.Bag(str(bag)).validate()
+    wanted = {str(it.relative_to(bag)): sha256(it.read_bytes()).hexdigest() for it in paths_below(bag / "data")}
+    count_same("the files of a bag", files_of_bag(bag), wanted)
     count_same("a bag", ended(home, "index", bag, "--store", "bag.db", "--manifest", bag / "manifest-sha256.txt").returncode, 0)
     (bag / "data" / "100%").write_bytes(b"x")
-    with pytest.raises(bagit.BagValidationError):
-        bagit.Bag(str(bag)).validate()
     (bag / "data" / "more").write_bytes(b"x")
     shutil.rmtree(bag / "data" / "deep")
     rows = [it for it in lines_of(home, "index", bag, "--store", "bag.db", "--manifest", bag / "manifest-sha256.txt", status=1) if "why" in it]

@@ -17,7 +17,7 @@ from random import Random
 import pytest
 from counting import count_if, count_same, is_line, needs, needs_server
 from making import write_files, zipped
-from running import DEADLINE, asked, begun, command, command_says, ended, lines_of, ran
+from running import AS_NOBODY, DEADLINE, asked, begun, command, command_says, ended, found_in, lines_of, ran
 
 pytestmark = [pytest.mark.archive, needs("click", "tqdm", "sqlalchemy", "cryptography", tools=["openssl"])]
 DOCUMENT = b"A document.\n"
@@ -147,6 +147,128 @@ def test_stopped(home, folder, new_store):
     command(home, "index", folder, "--anew", "--store", new_store)
     wanted = [("changed", "text", "text", "text"), ("gone", "b.txt", "text", None), ("state", "b.txt.p7s", "fits", "content not found")]
     count_same("after it was stopped", sorted(changes(home, new_store, "--since", since, status=1)), wanted)
+
+
+def fits(home, store):
+    rows = map(json.loads, ended(home, "check", "--all", "--json", "--store", store).stdout.splitlines())
+    return {it["file"].rpartition("/archive/")[2] for it in rows if it["state"] == "fits"}
+
+
+def test_killed_before_its_end(home, folder):
+    """What an index found that was killed is not lost to who asks after the next one, and until then it is said that something is yet to be read."""
+    write_files(folder, {f"many/{number // 10}/{number}": b"text" for number in range(3000)})
+    command(home, "index", folder, "--store", "killed.db")
+    time.sleep(1.1)
+    (folder / "a.txt").write_bytes(b"Another document.\n")
+    stopped = begun(home, "index", folder, "--anew", "--store", "killed.db", "--jobs", 1, "--together", 5, stderr=subprocess.DEVNULL, start_new_session=True)
+    deadline = time.monotonic() + DEADLINE
+    while not found_in(home / "killed.db", "SELECT * FROM history WHERE file = 'a.txt.p7s'") and time.monotonic() < deadline:
+        time.sleep(0.02)
+    os.killpg(stopped.pid, signal.SIGKILL)
+    stopped.wait(DEADLINE)
+    for words, status in (("check --under " + str(folder / "many"), 3), ("changes --under " + str(folder / "many"), 3), ("manifest --sha256sum", 1), ("signers", 0), ("duplicates", 0)):
+        said = command_says(home, *words.split(), "--store", "killed.db", status=status)
+        count_if(f"{words} of an index that has not ended", is_line(said, "parts of the archive are yet to be read: `cms-canon-archive index` goes on with them"), said)
+    time.sleep(1.1)
+    done = ran(home, "index", folder, "--store", "killed.db", "--json")
+    row = json.loads(done.stdout)
+    count_same("each file is counted once", row["read"] + row["unchanged"], row["files"])
+    count_same("what the index that was killed found", [it for it in changes(home, "killed.db", status=1) if it[0] != "new"], [
+        ("changed", "a.txt", "text", "text"), ("state", "a.txt.p7s", "fits", "does not fit")])
+    time.sleep(1.1)
+    command(home, "index", folder, "--store", "killed.db")
+    count_same("after the next one", changes(home, "killed.db"), [])
+
+
+def test_named_and_gone(home, folder, new_store):
+    """A folder or a file that is named, is not there and was stored is gone, and that is said."""
+    command(home, "index", folder / "gone", folder / "deep", folder / "a.txt", "--store", new_store)
+    time.sleep(1.1)
+    shutil.rmtree(folder / "gone")
+    (folder / "a.txt").unlink()
+    said = command_says(home, "index", folder / "gone", folder / "deep", folder / "a.txt", folder / "never", "--store", new_store, status=1)
+    count_if("what is named and gone", " 3 gone: " in said and said.count("there is no file or folder of this name") == 3, said)
+    listed = [("gone", "a.txt", "text", None), ("gone", "gone/d.txt", "text", None), ("gone", "gone/d.txt.p7s", "fits", None)]
+    count_same("it is listed", sorted(changes(home, new_store, status=1)), listed)
+    count_same("and not told as it was", fits(home, new_store), {"deep/c.txt.p7s"})
+
+
+def test_came_back(home, folder, new_store):
+    """A file that was gone at one index and is as it was at a later one is listed at each."""
+    command(home, "index", folder, "--store", new_store)
+    time.sleep(1.1)
+    since = time.strftime("%Y-%m-%dT%H:%M:%S", time.gmtime())
+    os.rename(folder / "a.txt.p7s", home / "away")
+    command(home, "index", folder, "--store", new_store)
+    time.sleep(1.1)
+    os.rename(home / "away", folder / "a.txt.p7s")
+    command(home, "index", folder, "--store", new_store)
+    listed = [("gone", "a.txt.p7s", "fits", None), ("new", "a.txt.p7s", None, "fits")]
+    count_same("it was away", changes(home, new_store, "--since", since, status=1), listed)
+    count_same("it came back", changes(home, new_store), listed[1:])
+
+
+@pytest.mark.skipif(not AS_NOBODY, reason="only root can begin a process of another user")
+def test_unreadable_folder(home, folder):
+    """What lies below a folder that cannot be read any more is not told as it was."""
+    for it in (home, folder):
+        it.chmod(0o755)
+    (home / "nobodys").mkdir()
+    (home / "nobodys").chmod(0o777)
+    words = ("--store", home / "nobodys" / "index.db")
+    ran(home, "index", folder, *words, "--jobs", 1, **AS_NOBODY)
+    manifest = ran(home, "manifest", "--sha256sum", *words).stdout
+    (home / "list").write_text(manifest)
+    time.sleep(1.1)
+    (folder / "deep").chmod(0)
+    said = [json.loads(it) for it in ran(home, "index", folder, *words, "--jobs", 1, "--manifest", "list", "--json", status=1, **AS_NOBODY).stdout.splitlines()]
+    closed = {(it["why"], it["file"].rpartition("/archive/")[2]) for it in said if "why" in it}
+    count_same("compared with a list", closed, {("not listed", "deep"), ("not known", "deep/c.txt"), ("not known", "deep/c.txt.p7s")})
+    count_same("changes", changes(home, words[1], status=1), [("new", "deep", None, "unreadable")])
+    for asked_for, status in (("check", 3), ("check --under " + str(folder / "deep"), 3), ("manifest --sha256sum", 1)):
+        done = ran(home, *asked_for.split(), *words, status=status)
+        count_if(asked_for, "1 folder could not be read, and what lies below is said as it was before" in done.stderr, done.stderr)
+    left = ran(home, "manifest", "--sha256sum", *words, status=1).stderr
+    count_if("what is left out", left.count("it lies in a folder that could not be read") == 2, left)
+    time.sleep(1.1)
+    (folder / "deep").chmod(0o755)
+    ran(home, "index", folder, *words, "--jobs", 1, **AS_NOBODY)
+    count_same("it can be read again", changes(home, words[1]), [("state", "deep", "unreadable", "readable")])
+    count_same("and all is known", (ran(home, "manifest", "--sha256sum", *words).stdout, command_says(home, "check", *words)), (manifest, ""))
+
+
+def test_worse(archive):
+    """Whatever was known to be good and is not any more is worse, and nothing else is."""
+    history = archive.history
+
+    def row(state="fits", verdict=None, note="", what="message"):
+        return history.Row(what, 1, "d", None, state, verdict, note, 1)
+
+    wrong_time = "token 0/1: does not fit"
+    kept = [(row(), row()), (row("does not fit"), row()), (row("fits, but covers only some files"), row()), (row(verdict="right"), row(verdict="right")), (row(), row(verdict="unknown")),
+            (row(verdict="wrong"), row(verdict="unknown")), (row(note=wrong_time), row(note=wrong_time)), (row(note=wrong_time), row()), (row("content not found"), None),
+            (row(None, what="text"), None), (None, row("does not fit")), (row(), row(note="countersigner 0.1: no digest to compare")), (row(verdict="unknown"), row(verdict="unknown"))]
+    worse = [(row(), row("does not fit")), (row(), None), (row(), row("content not found")), (row(), row(None, what="refused")), (row(), row("fits, but covers only some files")),
+             (row("fits, but covers only some files"), row("does not fit")), (row("fits an earlier revision"), None), (row(verdict="right"), row()), (row(verdict="right"), row(verdict="unknown")),
+             (row(), row(verdict="wrong")), (row("content not found", "right"), None), (row("does not fit", "right"), row("does not fit", "wrong")), (row(), row(note=f"a; {wrong_time}"))]
+    for pairs, wanted in ((kept, False), (worse, True)):
+        for before, after in pairs:
+            change = history.Changed(history.Change.STATE, 1, "/p", "", before, after)
+            count_same(f"{before and before.text} and then {after and after.text}", change.is_worse, wanted)
+
+
+def test_under_nothing(home, folder):
+    """A path of which the index has nothing is said to be so, and is no all-clear; one at which something was is known."""
+    command(home, "index", folder, "--store", "under.db")
+    os.symlink(folder, home / "link")
+    for words in ("check", "changes", "manifest --sha256sum", "signers", "times", "files", "refusals", "others", "changed", "algorithms", "renewal --by 2030-01-01"):
+        said = command_says(home, *words.split(), "--under", folder / "deeq", "--store", "under.db", status=2)
+        count_if(words, f"Error: --under: the index has nothing at {folder}/deeq\n" in said, said)
+    said = command_says(home, "check", "--under", home / "link" / "deep", "--store", "under.db", status=2)
+    count_if("by a link", f"nothing at {home}/link/deep, but at {folder}/deep\n" in said, said)
+    shutil.rmtree(folder / "gone")
+    command(home, "index", folder, "--store", "under.db")
+    count_same("what is gone", changes(home, "under.db", "--under", folder / "gone", status=1), [("gone", "gone/d.txt", "text", None), ("gone", "gone/d.txt.p7s", "fits", None)])
 
 
 @needs_server
