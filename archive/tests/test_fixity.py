@@ -133,8 +133,34 @@ def test_manifest(home, folder, new_store):
     count_same("one file that is as it is listed", rows, [])
 
 
+def test_not_of_a_bag(home, folder):
+    """A list of the name that bags have is one of a bag only beside bagit.txt; blank lines are passed over; what exists and was left out is not missing."""
+    lines = subprocess.run(["sha256sum", "doc", "text 1"], cwd=folder, capture_output=True, check=True).stdout
+    (folder / "manifest-sha256.txt").write_bytes(b"\n" + lines + b"\n\n")
+    for it in paths_below(folder):
+        if it.name not in ("doc", "text 1", "manifest-sha256.txt", "size 1", "doc.p7s"):
+            it.unlink()
+    rows = [it for it in lines_of(home, "index", folder, "--exclude", "text*", "--manifest", folder / "manifest-sha256.txt", status=1) if "why" in it]
+    wanted = [("not indexed", "text 1"), ("not listed", "doc.p7s"), ("not listed", "size 1")]
+    count_same("a list that is no bag's", sorted((it["why"], it["file"].rpartition("/")[2]) for it in rows), wanted)
+
+
+def test_links(home, folder):
+    """A link to a folder is followed if it is named, with a slash at its end or without, and so is one by which a list is named."""
+    for it in paths_below(folder):
+        if it.name not in ("doc", "doc.p7s"):
+            it.unlink()
+    os.symlink(folder, home / "link")
+    lines = subprocess.run(["sha256sum", "doc", "doc.p7s"], cwd=folder, capture_output=True, check=True).stdout
+    (folder / "list").write_bytes(lines)
+    for name in ("link", "link/", "link/.", "files/../link/"):
+        done = ended(home, "index", name, "--store", f"{len(name)}.db", "--manifest", "link/list")
+        count_if(f"{name}", (done.returncode, done.stdout, done.stderr.split()[0]) == (0, "", "3"), done)
+        count_same(f"{name}: below it", ended(home, "check", "--all", "--under", name, "--store", f"{len(name)}.db").stdout.count("\n"), 1)
+
+
 BAD = {
-    "empty": b"", "no digest": b"files/doc\n", "MD5": b"0" * 32 + b"  files/doc\n", "no name": b"0" * 64 + b"\n", "twice": b"0" * 64 + b"  a\n" + b"1" * 64 + b"  a\n",
+    "NUL": b"0" * 64 + b"  a\0", "empty": b"", "no digest": b"files/doc\n", "MD5": b"0" * 32 + b"  files/doc\n", "no name": b"0" * 64 + b"\n", "twice": b"0" * 64 + b"  a\n" + b"1" * 64 + b"  a\n",
     "a header": b"# list\n" + b"0" * 64 + b"  a\n",
 }
 

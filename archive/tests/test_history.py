@@ -6,6 +6,7 @@ however often an index was stopped; no worker can leave out of the history what 
 
 import json
 import os
+import resource
 import shutil
 import signal
 import sqlite3
@@ -17,6 +18,7 @@ from random import Random
 import pytest
 from counting import count_if, count_same, is_line, needs, needs_server
 from making import write_files, zipped
+from processor import slowness
 from running import AS_NOBODY, DEADLINE, asked, begun, command, command_says, ended, found_in, lines_of, ran
 
 pytestmark = [pytest.mark.archive, needs("click", "tqdm", "sqlalchemy", "cryptography", tools=["openssl"])]
@@ -130,6 +132,22 @@ def test_at_random(home, new_store):
         count_same(f"step {step}", sorted(it[:2] for it in changes(home, new_store)), wanted)
         before = after
         time.sleep(1.1)
+
+
+def test_many_gone(home):
+    """Files of one folder that go in thousands, and others that are read again, take time in proportion to them, not to their product."""
+    folder = home / "archive"
+    write_files(folder, {f"{number}": b"%d" % number for number in range(6000)})
+    command(home, "index", folder, "--store", "many.db", "--jobs", 1)
+    for number in range(3000):
+        (folder / f"{number}").unlink()
+    time.sleep(1.1)
+    began = resource.getrusage(resource.RUSAGE_CHILDREN).ru_utime
+    command(home, "index", folder, "--store", "many.db", "--anew", "--jobs", 1)
+    seconds = resource.getrusage(resource.RUSAGE_CHILDREN).ru_utime - began
+    count_if("the time of an index of which half is gone", seconds < 8 * slowness(), seconds)
+    count_same("what is gone", {it[0] for it in changes(home, "many.db")}, {"gone"})
+    count_same("how many", len(changes(home, "many.db")), 3000)
 
 
 def test_stopped(home, folder, new_store):

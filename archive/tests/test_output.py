@@ -116,6 +116,21 @@ def test_totals_of_what_is_wrong(home, make):
     count_if("a wrong signature is said", "  1 have a wrong signature: `cms-canon-archive check` lists them" in said, said)
 
 
+@pytest.mark.parametrize("words", ["check --all", "manifest --sha256sum", "signers --json", "changes", "--version", "--help"])
+def test_closed_streams(home, folder, words):
+    """A command that is begun with closed streams, as some daemons begin theirs, ends with a line, and never says that all is well."""
+    command(home, "index", folder)
+    for closing, status in ((">&-", 1), (">/dev/full", 1), (">&- 2>&-", 1), ("<&-", None), ("2>&-", None)):
+        done = subprocess.run(["sh", "-c", f'"$@" {closing}', "sh", *words_of(*words.split())], cwd=home, env=environment_of(home), capture_output=True, text=True, timeout=SECONDS)
+        usual = ended(home, *words.split())
+        wanted = usual.returncode if status is None else status
+        count_if(f"{words} {closing}", done.returncode == wanted and "Traceback" not in done.stderr and done.stderr.count("\n") <= max(1, usual.stderr.count("\n")), done)
+        if status is not None and "2>" not in closing:
+            count_if(f"{words} {closing}: said", "Error: the output is not written: " in done.stderr, done.stderr)
+    done = subprocess.run(["sh", "-c", '"$@" <&-', "sh", *words_of("check", "-")], cwd=home, env=environment_of(home), capture_output=True, text=True, timeout=SECONDS)
+    count_if("no standard input", done.returncode == 2 and "the standard input cannot be copied" in done.stderr and "Traceback" not in done.stderr, done.stderr)
+
+
 def test_questions(home, folder):
     """Each command in ARCHIVE.md's table of questions runs and says something. The index is made first, and the others follow in their order."""
     table = (ARCHIVE / "docs" / "ARCHIVE.md").read_text(encoding="utf-8").partition("## Questions")[2].partition("\n## ")[0]
