@@ -545,7 +545,7 @@ def check_command(
     the standard input. The status is 0 only if each digest of each message and of each time-stamp in it was compared, and fits, and with --verify or
     --certificates if the signature of each signer is right. It is 1 if a digest does not fit, or a signature is wrong, and 3 if anything is not known.
 
-    Without FILE, the status is 1 if the digests of any message or of a token in it do not fit, or a signature is wrong.
+    Without FILE, the status is 1 if the digests of any message or of a token in it do not fit, or a signature is wrong, whether it is listed or not.
     """
     if file is not None:
         if all_of_them or noted or any(it is not None for it in filters):
@@ -564,10 +564,11 @@ def check_command(
     def rows() -> Iterator[Dict[str, Any]]:
         nonlocal differs
         store = _opened(url, wait, filters.under)
-        is_any = all_of_them or filters.state is not None
-        for row in _with_name(queries.noted(store, filters) if noted else rechecking.checked_in(store, folders, is_any, filters)):
+        is_any, every = all_of_them or filters.state is not None, filters._replace(limit=None)
+        for number, row in enumerate(_with_name(queries.noted(store, every) if noted else rechecking.checked_in(store, folders, is_any, every))):
             differs = differs or row["state"] == State.DIFFERS.value or row["verdict"] == "wrong" or row["wrong_times"] > 0
-            yield row
+            if filters.limit is None or number < filters.limit:
+                yield row
 
     write(rows(), form, ("state", "findings", "verdict", "note", "file"))
     sys.exit(1 if differs else 0 if _is_whole() else 3)
@@ -645,6 +646,7 @@ def inspect_command(file: str, document: Optional[str], verifies: bool, given: T
 
     DOCUMENT is what the message in FILE signs or time-stamps. Either may be -, the standard input. The status is 1 if there is no message.
     """
+    from .containers.found import is_message
     from .inspecting import lines_of
     from .one_file import judged_in, messages_in
     from .reading import read_of, row_in_file
@@ -663,7 +665,7 @@ def inspect_command(file: str, document: Optional[str], verifies: bool, given: T
                 click.echo(shown(_name_in(file, found.where)))
                 for line in lines_of(found, how):
                     click.echo(line)
-                count += found.octets is not None
+                count += found.octets is not None and is_message(found.octets)
     if not count:
         click.echo(f"{shown(file)}: there is no message", err=True)
     sys.exit(0 if count else 1)

@@ -3,6 +3,7 @@
 from __future__ import annotations
 
 import re
+from datetime import datetime, timezone
 from typing import Any, Callable, List, NamedTuple, Optional
 
 import sqlalchemy as sa
@@ -10,7 +11,24 @@ import sqlalchemy as sa
 from .containers.found import State
 from .tables import FILES, PLACE_SIGNERS, PLACE_TIMES, PLACES, SIGNERS, TIMES, of_same_place
 
-_DATE = re.compile(r"[0-9]{4}(?:-[0-9]{2}(?:-[0-9]{2}(?:T[0-9]{2}:[0-9]{2}(?::[0-9]{2})?)?)?)?")
+_DATE = re.compile(r"[0-9]{4}(?:-[0-9]{2}(?:-[0-9]{2}(?:T[0-9]{2}:[0-9]{2}(?::[0-9]{2}Z?)?)?)?)?")
+
+
+def moment_of(text: str) -> datetime:
+    """Returns the first moment of a time in UTC, as 2024, 2024-02, 2024-02-29 or 2024-02-29T12:00. Raises `ValueError` if it is none."""
+    if not _DATE.fullmatch(text):
+        raise ValueError(text)
+    return datetime.fromisoformat(f"{text.rstrip('Z')}{'-01-01'[len(text) - 4 :] if len(text) < 10 else ''}").replace(tzinfo=timezone.utc)
+
+
+def _is_time(text: str) -> bool:
+    try:
+        moment_of(text)
+    except ValueError:
+        return False
+    return True
+
+
 _KEY = ("path", "member")
 
 
@@ -36,7 +54,7 @@ class Filters(NamedTuple):
         if self.state is not None and self.state not in states:
             raise ValueError(f"--state is one of: {', '.join(states)}")
         for name, text in (("--since", self.since), ("--until", self.until)):
-            if text is not None and not _DATE.fullmatch(text):
+            if text is not None and not _is_time(text):
                 raise ValueError(f"{name} is a time in UTC as 2024, 2024-02, 2024-02-29 or 2024-02-29T12:00, and not {text}")
 
     def where(self, query: Any, table: Any) -> Any:
@@ -70,8 +88,9 @@ class Filters(NamedTuple):
         return asked
 
     def _is_signer(self, columns: Any) -> Any:
-        wanted = str(self.signer).lower()
-        return sa.or_(*(sa.func.lower(sa.func.coalesce(columns[it], "")).contains(wanted, autoescape=True) for it in ("subject", "issuer")))
+        escaped = re.sub(r"([%_\\])", r"\\\1", str(self.signer))
+        wanted = sa.func.lower(sa.literal(f"%{escaped}%"))  # by the database, which lowers other letters than Python does
+        return sa.or_(*(sa.func.lower(sa.func.coalesce(columns[it], "")).like(wanted, escape="\\") for it in ("subject", "issuer")))
 
     def _is_between(self, table: Any) -> Any:
         if table is SIGNERS:
@@ -83,9 +102,10 @@ class Filters(NamedTuple):
     def _is_in(self, column: Any) -> Any:
         bounds = [column.is_not(None)]
         if self.since is not None:
-            bounds.append(column >= self.since)
+            bounds.append(column >= self.since.rstrip("Z"))
         if self.until is not None:
-            bounds.append(sa.func.substr(column, 1, len(self.until)) <= self.until)
+            until = self.until.rstrip("Z")
+            bounds.append(sa.func.substr(column, 1, len(until)) <= until)
         return sa.and_(*bounds)
 
 

@@ -15,6 +15,7 @@ from typing import TYPE_CHECKING, Any, Dict, Iterator, List, NamedTuple, Optiona
 import sqlalchemy as sa
 
 from .containers.found import GOOD, Class, State
+from .filters import moment_of
 from .tables import HISTORY, IS_NOT_COMPARED, IS_TAKEN, IS_TO_DO, KEPT, PARTS, PATH, PLACES
 
 if TYPE_CHECKING:
@@ -105,18 +106,12 @@ def _put_back(connection: sa.engine.Connection, same: List[Tuple[Any, After]]) -
 # ---- what is asked of it
 
 
-_TIME = re.compile(r"[0-9]{4}-[0-9]{2}-[0-9]{2}(?:T[0-9]{2}:[0-9]{2}(?::[0-9]{2})?Z?)?")
-
-
 def time_in(text: str) -> int:
-    """Returns the seconds since 1970 of a time in UTC, as 2024-02-29 or 2024-02-29T12:00:00. Raises `ValueError` with a line if it is none."""
-    wrong = ValueError(f"--since is a time in UTC as 2024-02-29, 2024-02-29T12:00 or 2024-02-29T12:00:00, and not {text}")
-    if not _TIME.fullmatch(text):
-        raise wrong
+    """Returns the seconds since 1970 of a time in UTC, as 2024, 2024-02, 2024-02-29 or 2024-02-29T12:00. Raises `ValueError` with a line if it is none."""
     try:
-        return int(datetime.fromisoformat(text.rstrip("Z")).replace(tzinfo=timezone.utc).timestamp())
+        return int(moment_of(text).timestamp())
     except (ValueError, OverflowError):
-        raise wrong from None
+        raise ValueError(f"--since is a time in UTC as 2024, 2024-02, 2024-02-29 or 2024-02-29T12:00, and not {text}") from None
 
 
 _GOOD = [it.value for it in GOOD]
@@ -142,6 +137,7 @@ class Row(NamedTuple):
     sha256: Optional[str]
     state: Optional[str]
     verdict: Optional[str]
+    verified_by: Optional[str]
     note: Optional[str]
     stored: Optional[int]
 
@@ -160,7 +156,8 @@ class Row(NamedTuple):
     @property
     def text(self) -> str:
         """What it is, as `fits`, with what was found of its signatures if they were verified."""
-        verdict = f"signatures {self.verdict}" if self.verdict else ""
+        given = " by the certificates given" if self.verified_by else ""
+        verdict = f"signatures {self.verdict}{given}" if self.verdict else ""
         return ", ".join(filter(None, (self.state or self.what, verdict, "a time-stamp does not fit" if self.has_wrong_time else "")))
 
     def is_same(self, other: Row) -> bool:
@@ -191,7 +188,8 @@ class Changed(NamedTuple):
             return self.is_folder  # below which nothing is known any more
         if after is None:
             return before.fit > 0 or before.verdict == "right"
-        return after.fit < before.fit or (before.verdict == "right" and after.verdict != "right") or (after.has_wrong_time and not before.has_wrong_time)
+        is_less_right = before.verdict == "right" and (after.verdict != "right" or (before.verified_by is not None and after.verified_by is None))
+        return after.fit < before.fit or is_less_right or (after.has_wrong_time and not before.has_wrong_time)
 
     def row(self) -> Dict[str, Any]:
         """Returns it as a list has it."""

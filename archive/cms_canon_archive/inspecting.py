@@ -83,7 +83,7 @@ class _Inspected:
         facts, content = self.facts, self.found.content
         length = None if self.message.content is None else len(self.message.content)
         length = length if content is None else content.length
-        where = ", ".join(filter(None, (facts.content_type, facts.content, None if length is None else size_of(length))))
+        where = ", ".join(filter(None, (facts.content_type, facts.content, None if length is None else size_of(length).replace("\xa0", " "))))
         yield from _some(1, ("content", where), ("state", facts.state.value if facts.state else None), ("signatures", self._verdict()))
         for it in filter(None, facts.findings.split("; ")):
             yield Line(1, "finding", _with_meaning(it))

@@ -19,7 +19,7 @@ from .containers.found import Class, Found, Octets, State
 from .containers.names import READERS_DIFFER
 from .faults import Complaint
 from .judging import BY_MESSAGE, MOST_LISTED, NOT_VERIFIED, Facts, Verification, verification_by
-from .reading import found_in_entry, judged_or_not
+from .reading import found_in_entry, judged_or_not, wanted_beside
 from .walking import entry_of
 
 STANDARD_INPUT = "-"
@@ -93,10 +93,10 @@ class _Watched:
 
 def _with_document(found: Found, document: str, progress: Progress) -> Found:
     """Returns a message with a file as what it signs. Raises `Complaint` if that is not there."""
-    content = beside(document)
+    content = beside(os.path.realpath(document))
     if content is None:
         raise Complaint(f"{document}: it is not there any more")
-    return found.with_content(replace(content, pieces=_Watched(content.pieces, progress)))
+    return found.with_content(replace(content, where=os.path.basename(document), pieces=_Watched(content.pieces, progress)))
 
 
 def messages_in(path: str, document: Optional[str], progress: Progress, digests: bool = False) -> Iterator[Found]:
@@ -104,11 +104,18 @@ def messages_in(path: str, document: Optional[str], progress: Progress, digests:
 
     A document is for the one message that the file is. Raises `Complaint` if it is a file with messages in it.
     """
+    own = _beside_link(path) if document is None else document
     for found in found_in_entry(entry_of(os.path.realpath(path)), digests):
         if document is not None and found.where:
             raise Complaint("a document is compared with the one message that a file is, and this file has messages in it")
         if found.what not in _OF_NO_MESSAGE or found.note:
-            yield found if document is None or found.what is not Class.MESSAGE else _with_document(found, document, progress)
+            yield found if own is None or found.where or found.what is not Class.MESSAGE else _with_document(found, own, progress)
+
+
+def _beside_link(path: str) -> Optional[str]:
+    """Returns the file beside a symbolic link that its own name says it signs, since nobody who names the link means what lies beside the other file."""
+    own = wanted_beside(os.path.abspath(path)) if os.path.islink(path) else ""
+    return own if own and os.path.exists(own) else None
 
 
 def verification(verifies: bool, paths: Sequence[str]) -> Verification:

@@ -71,6 +71,16 @@ def is_writable(database: str) -> bool:
     return os.access(database, os.W_OK) and os.access(os.path.dirname(os.path.abspath(database)), os.W_OK)
 
 
+def _refuse_with_log(database: str) -> None:
+    """Raises `NoStore` if the newest rows of a file of SQLite are in the log beside it, which is not read with it if nobody can write to it."""
+    try:
+        size = os.stat(f"{database}-wal").st_size
+    except OSError:
+        return
+    if size:
+        raise NoStore("the store is being written to, or was not closed, and cannot be written to from here: ask again when its index has ended, or a copy of it")
+
+
 def _quick(connection: Any, _: Any) -> None:
     """Has SQLite write ahead, so that a process that is killed loses no transaction that was done, and keep 64 MiB in memory."""
     connection.execute("PRAGMA journal_mode=WAL")
@@ -87,7 +97,10 @@ def engine_of(url: sa.engine.URL, writes: bool, wait: Optional[float] = None, po
         if not writes:
             path = os.path.abspath(str(url.database)).replace("%", "%25").replace("?", "%3f").replace("#", "%23")
             # A file that nobody can write to has no log beside it, which SQLite would make to read one.
-            query = {"uri": "true", "mode": "ro"} if is_writable(str(url.database)) else {"uri": "true", "immutable": "1"}
+            query = {"uri": "true", "mode": "ro"}
+            if not is_writable(str(url.database)):
+                _refuse_with_log(str(url.database))
+                query = {"uri": "true", "immutable": "1"}
             url = sa.engine.URL.create("sqlite", database=f"file:{path}", query=query)
     elif url.get_backend_name() == "postgresql":
         arguments.update(_KEPT_ALIVE)

@@ -7,13 +7,14 @@ from typing import Dict, Iterator, Optional, Sequence, Tuple
 
 import sqlalchemy as sa
 
-from .containers.found import State
+from .containers.found import Class, State
 from .elsewhere import Digest, digest_said, files_in, search, with_content
 from .filters import Filters
 from .folders import path_named_by
-from .judging import NOT_VERIFIED
+from .judging import BY_MESSAGE, NOT_VERIFIED, Verification
 from .queries import checked
 from .reading import Row, found_in_entry, read_of, row_in_file
+from .settings import verification_in
 from .store import FILES, Store
 from .tables import PLACE_SIGNERS, PLACE_TIMES, of_same_place
 from .texts import path_text_of
@@ -31,21 +32,37 @@ def checked_in(store: Store, folders: Sequence[str], all_of_them: bool, filters:
     places = _found_for(store, folders) if folders else {}
     for row in checked(store, all_of_them, filters):
         content = places.get((row["path"], row["member"]))
-        again = None if content is None else _judged_again(row, content)
+        again = None if content is None else _judged_again(store, row, content)
         if again is None:
             yield row
-        elif all_of_them or again["state"] != State.FITS.value or again["findings"] or again["wrong_times"]:
+        elif (filters.state is None or again["state"] == filters.state) and (all_of_them or not _is_well(again)):
             yield again
 
 
-def _judged_again(row: Row, content: str) -> Optional[Row]:
-    path = path_named_by(row["path"])
-    for found in found_in_entry(entry_of(path)) if path is not None else ():
-        if found.where == row["member"]:
-            judged = with_content(found, content, NOT_VERIFIED)
-            if judged is not None:
-                return {**row, **row_in_file(read_of(entry_of(str(path)), *judged))}
+def _is_well(row: Row) -> bool:
+    return row["state"] == State.FITS.value and not row["findings"] and not row["wrong_times"] and row["verdict"] != "wrong"
+
+
+def _judged_again(store: Store, row: Row, content: str) -> Optional[Row]:
+    """Returns a row with what is known of the message with this content, verified as it was before; None if that cannot be found out."""
+    path, how = path_named_by(row["path"]), _how_verified(store, row)
+    if path is None or how is None:
+        return None
+    for found in found_in_entry(entry_of(path)):
+        if found.where == row["member"] and found.what is Class.MESSAGE:
+            judged = with_content(found, content, how)
+            if judged is not None and judged[1].digest is not None and judged[1].digest.hex() == row["digest"]:
+                return {**row, **row_in_file(read_of(entry_of(path), *judged, how))}
     return None
+
+
+def _how_verified(store: Store, row: Row) -> Optional[Verification]:
+    if not row["is_verified"]:
+        return NOT_VERIFIED
+    if row["verified_by"] is None:
+        return BY_MESSAGE
+    with store.engine.connect() as connection:
+        return verification_in(connection, str(row["verified_by"]))
 
 
 def _found_for(store: Store, folders: Sequence[str]) -> Dict[Place, str]:

@@ -40,7 +40,7 @@ STATES = {  # what each state means, in the order of the page
     State.EARLIER.value: "The document was signed in an earlier revision: what was added later is not covered.",
     State.PARTLY.value: "What is covered is as it was signed; there are other files, parts or octets beside it.",
     State.NO_REVISION.value: "What is covered is not the file, nor a revision of it.",
-    State.DIFFERS.value: "The document is not the one that was signed, or was changed.",
+    State.DIFFERS.value: "The document is not the one that was signed, or was changed; or a signature is wrong, or a time-stamp does not fit.",
     State.INSIDE.value: "The message has content of its own, so that the document beside it is not what was signed.",
     State.NO_DIGEST.value: "Without signed attributes only a verifier can say: `cms-canon-archive index --verify`.",
     State.UNKNOWN_DIGEST.value: "The digest is of an algorithm that is not known here.",

@@ -181,7 +181,8 @@ class Summary(NamedTuple):
 _IS_MESSAGE = FILES.c.what == Class.MESSAGE.value
 _IS_REFUSED = FILES.c.what == Class.REFUSED.value
 _IS_WRONG = FILES.c.what.in_(_WRONG)
-_STATE = sa.func.coalesce(FILES.c.state, NOT_JUDGED)
+_IS_WRONG_INSIDE = (sa.func.coalesce(FILES.c.verdict, "") == "wrong") | sa.func.coalesce(FILES.c.note, "").like(f"%token %: {State.DIFFERS.value}%")
+_STATE = sa.case((_IS_WRONG_INSIDE, State.DIFFERS.value), else_=sa.func.coalesce(FILES.c.state, NOT_JUDGED))  # a wrong signature or time-stamp is told as one
 
 
 @contextmanager
@@ -353,10 +354,10 @@ def summary_of(store: Store, now: Optional[datetime] = None) -> Summary:
             files=files,
             octets=octets,
             states=_counts(connection, _STATE, _IS_MESSAGE),
-            noted=int(connection.execute(sa.select(sa.func.count()).select_from(FILES).where(IS_NOTED)).scalar_one()),
+            noted=int(connection.execute(sa.select(sa.func.count()).select_from(FILES).where(IS_NOTED, _STATE == State.FITS.value)).scalar_one()),
             classes=_counts(connection, FILES.c.what),
             kinds=kinds_of(connection),
-            differing=_first_of(connection, FILES.c.state, FILES.c.state == State.DIFFERS.value).get(State.DIFFERS.value, []),
+            differing=_first_of(connection, _STATE, _IS_MESSAGE & (_STATE == State.DIFFERS.value)).get(State.DIFFERS.value, []),
             verdicts=_counts(connection, FILES.c.verdict, FILES.c.verdict.is_not(None)),
             refusals=_refusals_of(connection),
             unreadable=_unreadable_of(connection),

@@ -110,7 +110,7 @@ ALLOWED: Dict[str, Tuple[str, ...]] = {  # what these columns of a place have, i
     "verdict": ("right", "wrong", "unknown"),
 }
 REASONS = range(1, len(REFUSALS) + 1)
-KEPT = ("what", "length", "digest", "sha256", "state", "verdict", "note", "stored")  # the columns of a place that are kept of a row which is dropped
+KEPT = ("what", "length", "digest", "sha256", "state", "verdict", "verified_by", "note", "stored")  # the columns of a place that are kept of a row which is dropped
 NOT_NEGATIVE = ("length", "size", "inode", "signers", "at", "reader")
 
 

@@ -259,8 +259,8 @@ def test_worse(archive):
     """Whatever was known to be good and is not any more is worse, and nothing else is."""
     history = archive.history
 
-    def row(state="fits", verdict=None, note="", what="message"):
-        return history.Row(what, 1, "d", None, state, verdict, note, 1)
+    def row(state="fits", verdict=None, note="", what="message", by=None):
+        return history.Row(what, 1, "d", None, state, verdict, by, note, 1)
 
     wrong_time = "token 0/1: does not fit"
     kept = [(row(), row()), (row("does not fit"), row()), (row("fits, but covers only some files"), row()), (row(verdict="right"), row(verdict="right")), (row(), row(verdict="unknown")),
@@ -268,7 +268,7 @@ def test_worse(archive):
             (row(None, what="text"), None), (None, row("does not fit")), (row(), row(note="countersigner 0.1: no digest to compare")), (row(verdict="unknown"), row(verdict="unknown"))]
     worse = [(row(), row("does not fit")), (row(), None), (row(), row("content not found")), (row(), row(None, what="refused")), (row(), row("fits, but covers only some files")),
              (row("fits, but covers only some files"), row("does not fit")), (row("fits an earlier revision"), None), (row(verdict="right"), row()), (row(verdict="right"), row(verdict="unknown")),
-             (row(), row(verdict="wrong")), (row("content not found", "right"), None), (row("does not fit", "right"), row("does not fit", "wrong")), (row(), row(note=f"a; {wrong_time}"))]
+             (row(verdict="right", by="c"), row(verdict="right")), (row(), row(verdict="wrong")), (row("content not found", "right"), None), (row("does not fit", "right"), row("does not fit", "wrong")), (row(), row(note=f"a; {wrong_time}"))]
     for pairs, wanted in ((kept, False), (worse, True)):
         for before, after in pairs:
             change = history.Changed(history.Change.STATE, 1, "/p", "", before, after)
@@ -331,11 +331,14 @@ def test_older_store(home, folder):
     count_same("all have a SHA-256", asked(home / "older.db", "SELECT count(*) FROM places WHERE member = '' AND sha256 IS NULL"), [(0,)])
 
 
-@pytest.mark.parametrize("time", ["yesterday", "2024", "2024-02-30", "2024-02-29T25:00", "2024-02-29 12:00", ""])
+@pytest.mark.parametrize("time", ["yesterday", "24", "2024-13", "2024-02-30", "2024-02-29T25:00", "2024-02-29 12:00", "2024Z", ""])
 def test_bad_times(home, folder, time):
     command(home, "index", folder, "--store", "bad.db")
     said = command_says(home, "changes", "--since", time, "--store", "bad.db", status=2)
-    count_if(f"--since '{time}'", "--since is a time in UTC as 2024-02-29" in said and "Traceback" not in said, said)
+    count_if(f"--since '{time}'", "--since is a time in UTC as 2024, 2024-02, " in said and "Traceback" not in said, said)
+    for words in ("check", "signers", "times"):
+        said = command_says(home, words, "--until", time, "--store", "bad.db", status=2)
+        count_if(f"{words} --until '{time}'", "--until is a time in UTC as 2024, 2024-02, " in said, said)
 
 
 def test_no_index(home):

@@ -89,7 +89,7 @@ def test_rows(home, folder):
     lines = [line.split("\t") for line in command(home, "refusals").splitlines()]
     count_same("notes in lines", {file.rpartition("/")[2]: note for _, note, file in lines}, {name: said or "-" for name, said in wanted.items()})
     count_same("notes of `files`", {it["path"].rpartition("/")[2]: it["note"] for it in lines_of(home, "files")}, wanted)
-    said = command(home, "inspect", place / "pkcs8.der")
+    said = command(home, "inspect", place / "pkcs8.der", status=1)
     count_if("inspect", f"note           {OF_PKCS8}" in said, said)
     said = command(home, "check", place / "pkcs8.der", status=3)
     count_if("check", f"\n  {OF_PKCS8}\n" in said, said)
