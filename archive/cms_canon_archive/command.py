@@ -1111,10 +1111,11 @@ def report_command(file: str, url: str, wait: Optional[float]) -> None:
     from . import report
     from .history import note_report
     from .pages import Page
+    from .queries import gaps
 
     store = _opened(url, wait)
     summary = report.summary_of(store)
-    Page(file).write(report.page_of(summary, store.name()))
+    Page(file).write(report.page_of(summary, store.name(), left=gaps(store).lines()))
     if why_not := note_report(url, wait, summary.time):
         click.echo(f"the store does not keep when this report was made: {why_not}", err=True)
 

@@ -189,9 +189,8 @@ class Reader:
             if path is None or path in self._own or is_gone(path, part) or is_left_out(path, part, self._settings_of(part)):
                 self._drop_all(outcome)
                 return []
-        except OSError as error:
-            if error.errno == errno.ENAMETOOLONG:  # which never changes, while what is stored below another folder that cannot be looked into is kept
-                self.put_error(outcome, "", str(path).rstrip("/"), why_of(error))
+        except OSError as error:  # what is stored below a folder that cannot be looked into is kept, and the row says that it may not be so any more
+            self.put_error(outcome, "", str(path).rstrip("/") or "/", why_of(error))
             return []
         if part.name:
             return self._changed(outcome, [("", entry_of(path))])

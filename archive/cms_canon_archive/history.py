@@ -15,6 +15,7 @@ from typing import TYPE_CHECKING, Any, Dict, Iterator, List, NamedTuple, Optiona
 import sqlalchemy as sa
 
 from .containers.found import GOOD, Class, State
+from .containers.names import READERS_DIFFER
 from .filters import moment_of
 from .tables import HISTORY, IS_NOT_COMPARED, IS_TAKEN, IS_TO_DO, KEPT, PARTS, PATH, PLACES
 
@@ -143,10 +144,11 @@ class Row(NamedTuple):
 
     @property
     def fit(self) -> int:
-        """How well it fits: 2 if it does, 1 if in part or an earlier revision, and 0 if not, if that is not known, or if a signature is wrong."""
+        """How well it fits: 2 if it does, 1 if in part, an earlier revision or what readers differ on, and 0 if not, if that is not known, or if a signature
+        is wrong."""
         if self.verdict == "wrong" or self.state not in _GOOD:
             return 0
-        return 2 if self.state == State.FITS.value else 1
+        return 2 if self.state == State.FITS.value and READERS_DIFFER not in (self.note or "") else 1
 
     @property
     def has_wrong_time(self) -> bool:
@@ -158,12 +160,13 @@ class Row(NamedTuple):
         """What it is, as `fits`, with what was found of its signatures if they were verified."""
         given = " by the certificates given" if self.verified_by else ""
         verdict = f"signatures {self.verdict}{given}" if self.verdict else ""
-        return ", ".join(filter(None, (self.state or self.what, verdict, "a time-stamp does not fit" if self.has_wrong_time else "")))
+        differ = "readers differ" if self.state == State.FITS.value and self.fit == 1 else ""
+        return ", ".join(filter(None, (self.state or self.what, verdict, differ, "a time-stamp does not fit" if self.has_wrong_time else "")))
 
     def is_same(self, other: Row) -> bool:
         """Whether both say the same. A SHA-256 that older tables did not have is no difference."""
         is_known = self.sha256 is not None and other.sha256 is not None
-        mine, others = (it._replace(sha256=None, note=None, stored=None) for it in (self, other))
+        mine, others = ((it._replace(sha256=None, note=None, stored=None), it.fit, it.has_wrong_time) for it in (self, other))
         return mine == others and (not is_known or self.sha256 == other.sha256)
 
 

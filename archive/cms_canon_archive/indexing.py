@@ -71,7 +71,7 @@ def put_in(
             return int(connection.execute(sa.select(sa.func.count()).select_from(some)).scalar_one())
 
     to_do = store.tried(put)
-    store.note_paths(map(_noted, tops), {**own_version().noted(), BEGAN: str(began)})
+    store.note_paths(map(_noted, tops), {**own_version().noted(), BEGAN: str(began), ENDED: ""})
     return to_do
 
 

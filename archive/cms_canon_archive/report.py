@@ -230,8 +230,8 @@ def with_commands(text: str) -> Markup:
     return Markup(re.sub(r"`([^`]*)`", r"<code>\1</code>", str(escape(text))))
 
 
-def page_of(summary: Summary, store: str, made: Optional[datetime] = None) -> str:
-    """Returns the page for a summary of a store."""
+def page_of(summary: Summary, store: str, made: Optional[datetime] = None, left: Iterable[str] = ()) -> str:
+    """Returns the page for a summary of a store. `left` are lines about what the store does not know."""
     environment = jinja2.Environment(
         autoescape=True, undefined=jinja2.StrictUndefined, trim_blocks=True, lstrip_blocks=True, keep_trailing_newline=True,
     )
@@ -243,6 +243,7 @@ def page_of(summary: Summary, store: str, made: Optional[datetime] = None) -> st
         tables={it.name: it for it in tables_of(summary)},
         reason_of=reason_of,
         store=store,
+        left=list(left),
         paths=json.loads(summary.about.get("paths", "[]")),
         version=cms_canon.__version__,
         made=now.strftime(_MINUTE),

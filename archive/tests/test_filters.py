@@ -76,7 +76,7 @@ def chosen(row, signers, times, state="", under=None, signer=None, algorithm=Non
     return not state or row["state"] == state
 
 
-ASKED = {"under": ("/archive", "/archive/a", "/archive/a/b/", "/archive/a%", "/nowhere", "/"), "state": STATES[:3], "signer": ("alice", "100%", "_", "zoë", "nobody"),
+ASKED = {"under": ("/archive", "/archive/a", "/archive/a/b/", "/archive/a%", "/archive0", "/"), "state": STATES[:3], "signer": ("alice", "100%", "_", "zoë", "nobody"),
          "algorithm": ("sha1", "RSA", "rsa-sha1", "md5"), "since": ("2024", "2024-02-29T12:00", "2026"), "until": ("2023", "2024-02-29", "2025-06-01T00:00:00")}
 
 

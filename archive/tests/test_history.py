@@ -255,6 +255,43 @@ def test_unreadable_folder(home, folder):
     count_same("and all is known", (ran(home, "manifest", "--sha256sum", *words).stdout, command_says(home, "check", *words)), (manifest, ""))
 
 
+@pytest.mark.skipif(not AS_NOBODY, reason="only root can begin a process of another user")
+def test_folder_that_cannot_be_entered(home, folder):
+    """What lies in a folder below one that can be listed and not entered is not told as it was."""
+    write_files(folder, {"outer/inner/doc": DOCUMENT})
+    for it in (home, folder):
+        it.chmod(0o755)
+    (home / "nobodys").mkdir()
+    (home / "nobodys").chmod(0o777)
+    words = ("--store", home / "nobodys" / "index.db")
+    ran(home, "index", folder, *words, "--jobs", 1, **AS_NOBODY)
+    time.sleep(1.1)
+    (folder / "outer").chmod(0o744)
+    ran(home, "index", folder, *words, "--jobs", 1, status=3, **AS_NOBODY)
+    (folder / "outer").chmod(0o755)
+    count_same("changes", changes(home, words[1], status=1), [("new", "outer/inner", None, "unreadable")])
+    for asked_for, status in (("check --under " + str(folder / "outer"), 3), ("manifest --sha256sum", 1)):
+        done = ran(home, *asked_for.split(), *words, status=status)
+        count_if(asked_for, "1 folder could not be read" in done.stderr, done.stderr)
+    page = ran(home, "report", "--html", "-", *words).stdout
+    count_if("the page says so", '<p class="left">1 folder could not be read, and what lies below is said as it was before: <code>' in page, page[:3000])
+    time.sleep(1.1)
+    ran(home, "index", folder, *words, "--jobs", 1, **AS_NOBODY)
+    count_same("it can be entered again", changes(home, words[1]), [("state", "outer/inner", "unreadable", "readable")])
+
+
+def test_readers_differ(home, make):
+    """A message that fits, and on which readers differ from now on, is another state and worse."""
+    members = {"c1.txt": DOCUMENT, "c1.txt.p7s": make.cms(DOCUMENT)}
+    folder = write_files(home / "archive", {"a.zip": zipped(members)})
+    command(home, "index", folder, "--store", "readers.db")
+    time.sleep(1.1)
+    write_files(folder, {"a.zip": zipped({**members, "C1.TXT": b"other"})})
+    command(home, "index", folder, "--store", "readers.db")
+    states = [it for it in changes(home, "readers.db", status=1) if it[0] == "state"]
+    count_same("readers differ", states, [("state", "a.zip!c1.txt.p7s", "fits", "fits, readers differ")])
+
+
 def test_worse(archive):
     """Whatever was known to be good and is not any more is worse, and nothing else is."""
     history = archive.history
@@ -265,10 +302,10 @@ def test_worse(archive):
     wrong_time = "token 0/1: does not fit"
     kept = [(row(), row()), (row("does not fit"), row()), (row("fits, but covers only some files"), row()), (row(verdict="right"), row(verdict="right")), (row(), row(verdict="unknown")),
             (row(verdict="wrong"), row(verdict="unknown")), (row(note=wrong_time), row(note=wrong_time)), (row(note=wrong_time), row()), (row("content not found"), None),
-            (row(None, what="text"), None), (None, row("does not fit")), (row(), row(note="countersigner 0.1: no digest to compare")), (row(verdict="unknown"), row(verdict="unknown"))]
+            (row(None, what="text"), None), (None, row("does not fit")), (row(), row(note="countersigner 0.1: no digest to compare")), (row(note="readers differ on a"), row(note="readers differ on b")), (row(verdict="unknown"), row(verdict="unknown"))]
     worse = [(row(), row("does not fit")), (row(), None), (row(), row("content not found")), (row(), row(None, what="refused")), (row(), row("fits, but covers only some files")),
              (row("fits, but covers only some files"), row("does not fit")), (row("fits an earlier revision"), None), (row(verdict="right"), row()), (row(verdict="right"), row(verdict="unknown")),
-             (row(verdict="right", by="c"), row(verdict="right")), (row(), row(verdict="wrong")), (row("content not found", "right"), None), (row("does not fit", "right"), row("does not fit", "wrong")), (row(), row(note=f"a; {wrong_time}"))]
+             (row(verdict="right", by="c"), row(verdict="right")), (row(), row(note="readers differ on a")), (row(), row(verdict="wrong")), (row("content not found", "right"), None), (row("does not fit", "right"), row("does not fit", "wrong")), (row(), row(note=f"a; {wrong_time}"))]
     for pairs, wanted in ((kept, False), (worse, True)):
         for before, after in pairs:
             change = history.Changed(history.Change.STATE, 1, "/p", "", before, after)

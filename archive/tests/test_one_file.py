@@ -208,7 +208,7 @@ def test_inspect(home, folder, make):
         count_if(f"inspect: {it}", it in token, token)
     text = command(home, "inspect", folder / "elsewhere.p7s", folder / "other")
     count_if("inspect: a finding", "F7 signer 0 message digest differs: The content is not what was signed" in text, text)
-    cut = command(home, "inspect", folder / "cut.p7s")
+    cut = command(home, "inspect", folder / "cut.p7s", status=1)
     count_if("inspect: a refusal", "E1 Truncated at" in cut and "Get the whole message." in cut, cut)
     said = command_says(home, "inspect", folder / "text.txt", status=1)
     count_same("inspect: no message", said, f"{folder}/text.txt: there is no message\n")
