@@ -30,7 +30,7 @@ import pytest
 from counting import count_if, count_same, is_line, needs, needs_cluster, needs_server, other_than
 from making import message_at_random, write_files
 from running import (
-    DEADLINE, SETTLED, asked, begun, command, command_says, ended, environment_of, faulty_processes, put_in, ran, rows_in, wait_until,
+    DEADLINE, SETTLED, asked, begun, command, command_says, ended, environment_of, faulty_processes, put_in, ran, rows_in, store_of, wait_until,
 )
 from tally import count
 
@@ -69,9 +69,10 @@ def make_files(folder):
 
 
 def rows_of(url):
-    """Returns all rows that a store has of files, signers and times."""
-    orders = {"files": "path, member", "signers": "path, member, number", "times": "path, member, number"}
-    return {table: list(map(tuple, asked(url, f"SELECT * FROM {table} ORDER BY {order}"))) for table, order in orders.items()}
+    """Returns all rows that a store has of files, signers and times, but for when they were stored."""
+    orders = {"signers": "path, member, number", "times": "path, member, number"}
+    lists = {table: list(map(tuple, asked(url, f"SELECT * FROM {table} ORDER BY {order}"))) for table, order in orders.items()}
+    return {"files": list(map(tuple, store_of(url))), **lists}
 
 
 def difference(came, wanted):
@@ -704,7 +705,7 @@ def test_sample(case):
 FILE = "(SELECT part FROM places WHERE file = '3.p7s' AND member = '' ORDER BY part LIMIT 1)"  # the part of a file
 OTHERS = ", ".join(
     "length size changed inode digest kind signers is_der time reason name at error beside what form content_type content state note findings "
-    "digests signatures verdict is_settled is_verified library reader worker".split()
+    "digests signatures verdict is_settled is_verified library reader sha256 verified_by worker stored".split()
 )
 UNREADABLE = ", ".join({"what": "'unreadable'", "digest": "NULL", "state": "NULL", "reason": "NULL"}.get(it, it) for it in OTHERS.split(", "))
 

@@ -169,7 +169,7 @@ def wrong_digests(own):
 
 
 def _part(path, top, name="", whole=None):
-    return sessions.New(path, name, 0, 1, whole, top, False, False)
+    return sessions.New(path, name, 0, 1, whole, top, False, False, None)
 
 
 def _adding(parts_beside):

@@ -108,10 +108,8 @@ What the reasons mean, and what to do:
              whole message.
   E2         The message, its DER, the detached content or the data have more
              than 268,435,456 octets, or a length in the message says so. If it
-             is not damaged: `cms-canon-archive check FILE DOCUMENT` takes
-             content and data of any length,
-             `cms-canon-archive convert --limit` longer messages, and a program
-             of your own can give a larger limit.
+             is not damaged, use a program of your own, which can give a larger
+             limit.
   E3 to E5   A length is malformed. Get the message again: it is damaged, or
              was badly made.
   E6         An element is longer than what is left of the one around it. Get
@@ -246,8 +244,7 @@ covers anything. `cms-canon help cover` shows how openssl verifies one.
 With --content, all that follows the message is its detached content. It is
 used only if the message has no content of its own. With --data, it is the data
 that were time-stamped. If nothing follows the message, these are empty. Only
-one of the two options can be given. More than 268,435,456 octets are refused
-with E2: `cms-canon-archive check FILE DOCUMENT` takes a document of any length.
+one of the two options can be given.
 
 Of a response, the token is checked, and whether the status goes with it. Of a
 request, only the imprint is checked, with --data.
