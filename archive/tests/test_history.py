@@ -226,15 +226,21 @@ def test_came_back(home, folder, new_store):
     count_same("it came back", changes(home, new_store), listed[1:])
 
 
-@pytest.mark.skipif(not AS_NOBODY, reason="only root can begin a process of another user")
-def test_unreadable_folder(home, folder):
-    """What lies below a folder that cannot be read any more is not told as it was."""
+def indexed_by_nobody(home, folder):
+    """Has a process without the rights of root make an index, and returns the words that name it."""
     for it in (home, folder):
         it.chmod(0o755)
     (home / "nobodys").mkdir()
     (home / "nobodys").chmod(0o777)
     words = ("--store", home / "nobodys" / "index.db")
     ran(home, "index", folder, *words, "--jobs", 1, **AS_NOBODY)
+    return words
+
+
+@pytest.mark.skipif(not AS_NOBODY, reason="only root can begin a process of another user")
+def test_unreadable_folder(home, folder):
+    """What lies below a folder that cannot be read any more is not told as it was."""
+    words = indexed_by_nobody(home, folder)
     manifest = ran(home, "manifest", "--sha256sum", *words).stdout
     (home / "list").write_text(manifest)
     time.sleep(1.1)
@@ -259,12 +265,7 @@ def test_unreadable_folder(home, folder):
 def test_folder_that_cannot_be_entered(home, folder):
     """What lies in a folder below one that can be listed and not entered is not told as it was."""
     write_files(folder, {"outer/inner/doc": DOCUMENT})
-    for it in (home, folder):
-        it.chmod(0o755)
-    (home / "nobodys").mkdir()
-    (home / "nobodys").chmod(0o777)
-    words = ("--store", home / "nobodys" / "index.db")
-    ran(home, "index", folder, *words, "--jobs", 1, **AS_NOBODY)
+    words = indexed_by_nobody(home, folder)
     time.sleep(1.1)
     (folder / "outer").chmod(0o744)
     ran(home, "index", folder, *words, "--jobs", 1, status=3, **AS_NOBODY)
