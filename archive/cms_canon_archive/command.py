@@ -314,8 +314,7 @@ def index_command(
     listed = _said_wrong(partial(manifest_in, manifest)) if manifest else None
     store = Store(url, makes=True, wait=wait)
     tops = tops_of(filter(is_there, paths))
-    gone = [os.path.abspath(it) for it in paths if not os.path.lexists(it)]
-    plan = Plan(tops, Options(together, patience), jobs, scheduler, anew, verifies or bool(given), settings, gone)
+    plan = Plan(tops, Options(together, patience), jobs, scheduler, anew, verifies or bool(given), settings)
     with Bar() as bar:
         done = index(store, plan, line_of, bar.show)
     store = Store(url, wait=wait)

@@ -75,15 +75,19 @@ def compare(engine: sa.engine.Engine) -> None:
     with engine.connect() as connection:
         if any(connection.execute(sa.select(PARTS.c.id).where(it).limit(1)).first() is not None for it in (IS_TO_DO, IS_TAKEN)):
             return
-    while _compare_once(engine):
+        newest = connection.execute(sa.select(sa.func.max(HISTORY.c.id))).scalar()
+    if newest is None:
+        return
+    is_before = IS_NOT_COMPARED & (HISTORY.c.id <= newest)  # what another index drops meanwhile is left to that
+    while _compare_once(engine, is_before):
         pass
     with engine.begin() as connection:
-        connection.execute(sa.update(HISTORY).where(IS_NOT_COMPARED).values(is_compared=True))
+        connection.execute(sa.update(HISTORY).where(is_before).values(is_compared=True))
 
 
-def _compare_once(engine: sa.engine.Engine) -> bool:
+def _compare_once(engine: sa.engine.Engine, is_before: Any) -> bool:
     """Compares the last row of each place, and returns whether any was dropped, so that the one before it is the last now."""
-    asked = sa.select(HISTORY).where(IS_NOT_COMPARED).order_by(HISTORY.c.id).limit(ASKED)
+    asked = sa.select(HISTORY).where(is_before).order_by(HISTORY.c.id).limit(ASKED)
     last, any_dropped = 0, False
     while True:
         with engine.begin() as connection:
@@ -100,7 +104,8 @@ def _compare_once(engine: sa.engine.Engine) -> bool:
 def _put_back(connection: sa.engine.Connection, same: List[Tuple[Any, After]]) -> None:
     own = [PLACES.c[it] == sa.bindparam(f"own_{it}") for it in ("part", "file", "member")]
     since = [{"since": it["stored"], "own_part": now.part, "own_file": now.file, "own_member": it["member"]} for it, now in same]
-    connection.execute(sa.update(PLACES).where(*own).values(stored=sa.bindparam("since")), since)
+    earlier = sa.case((PLACES.c.stored < sa.bindparam("since"), PLACES.c.stored), else_=sa.bindparam("since"))  # another index may have put it back already
+    connection.execute(sa.update(PLACES).where(*own, PLACES.c.stored.is_not(None)).values(stored=earlier), since)
     connection.execute(sa.delete(HISTORY).where(HISTORY.c.id.in_([it["id"] for it, _ in same])))
 
 

@@ -24,7 +24,7 @@ from .settings import NO_SETTINGS, Settings
 from .settings import put as put_settings
 from .history import BEGAN, ENDED
 from .store import Store
-from .tables import IS_TAKEN, IS_TO_DO, OF_PARTS, PARTS, PLACES, Now, insertion
+from .tables import IS_TAKEN, IS_TO_DO, OF_PARTS, PARTS, Now, insertion
 from .texts import path_text_of, text_of
 from .versions import own_version
 from .watching import Counts, State, Watch, counts_in, state_of
@@ -49,11 +49,8 @@ Show = Callable[[State, Counts], None]  # shows where an index is, and what was 
 # ---- what is to be done
 
 
-def put_in(
-    store: Store, tops: Sequence[str], anew: bool = False, verifies: bool = False, settings: Settings = NO_SETTINGS, gone: Sequence[str] = ()
-) -> int:
-    """Has the parts of these folders and files done, and done again if they are done or being done, and likewise what is stored of paths that are gone.
-    Returns how many are to be done, at most 10,000."""
+def put_in(store: Store, tops: Sequence[str], anew: bool = False, verifies: bool = False, settings: Settings = NO_SETTINGS) -> int:
+    """Has the parts of these folders and files done, and done again if they are done or being done. Returns how many are to be done, at most 10,000."""
 
     began = _beginning(store)
 
@@ -64,9 +61,6 @@ def put_in(
             how = {"anew": anew, "verifies": verifies, "settings": put_settings(connection, settings)}
             for top in tops:
                 _put_top(connection, top, os.path.isdir(top), how)
-            for top in gone:
-                if (is_folder := _was_folder(connection, top)) is not None:
-                    _put_top(connection, top, is_folder, how)
             some = sa.select(PARTS.c.id).where(IS_TO_DO).limit(_MOST_COUNTED).subquery()
             return int(connection.execute(sa.select(sa.func.count()).select_from(some)).scalar_one())
 
@@ -87,17 +81,6 @@ def _beginning(store: Store) -> int:
 def _noted(top: str) -> str:
     """Returns the text by which a store notes a path that is indexed."""
     return texts_of_folder(top)[0].rstrip("/") or "/" if os.path.isdir(top) else path_text_of(top)
-
-
-def _was_folder(connection: sa.engine.Connection, path: str) -> Optional[bool]:
-    """Whether a path is stored as that of a folder; None if it is not stored at all."""
-    inside, folder = texts_of_folder(path)[0], texts_of_folder(os.path.dirname(path))[0]
-    if connection.execute(sa.select(PARTS.c.id).where(PARTS.c.path == inside).limit(1)).first() is not None:
-        return True
-    name = text_of(os.path.basename(path))
-    is_file = sa.exists().where(PLACES.c.part == PARTS.c.id, PLACES.c.file == name)
-    own = sa.select(PARTS.c.id).where(PARTS.c.path == folder, (PARTS.c.name == name) | is_file).limit(1)
-    return None if connection.execute(own).first() is None else False
 
 
 def _put_top(connection: sa.engine.Connection, top: str, is_folder: bool, how: Dict[str, Any]) -> None:
@@ -151,8 +134,6 @@ class Plan(NamedTuple):
     anew: bool
     verifies: bool
     settings: Settings = NO_SETTINGS
-    gone: Sequence[str] = ()
-    """Paths that were named, and at which nothing is: what is stored of them is gone too."""
 
 
 def index(store: Store, plan: Plan, line_of: Callable[[Exception], Optional[str]], show: Show) -> Done:
@@ -164,7 +145,7 @@ def index(store: Store, plan: Plan, line_of: Callable[[Exception], Optional[str]
     cluster = _cluster_of(plan.scheduler) if plan.scheduler else None
     with store.engine.connect() as connection:
         before = counts_in(connection)
-    to_do = put_in(store, plan.tops, plan.anew, plan.verifies, plan.settings, plan.gone)
+    to_do = put_in(store, plan.tops, plan.anew, plan.verifies, plan.settings)
     store.close()  # or processes begun now would have its connections
     if cluster is not None:
         _by_cluster(watch, cluster, plan, partial(show_since, show, before))

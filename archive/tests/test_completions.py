@@ -23,7 +23,7 @@ IN_ZSH = (
 )
 IN_FISH = "source $argv[1]; complete -C $argv[2]"
 OFFERED = {  # what each shell offers after what was typed
-    "cms-canon-archive re": ["refusals", "report"], "cms-canon-archive verify": ["verify-store"], "cms-canon-archive --": ["--version", "--help"],
+    "cms-canon-archive re": ["refusals", "renewal", "report"], "cms-canon-archive verify": ["verify-store"], "cms-canon-archive --": ["--version", "--help"],
     "cms-canon-archive report --": ["--html", "--store", "--wait", "--help"], "cms-canon-archive times --sinc": ["--since"], "cms-canon-archive zzz": [],
     "cms-canon-archive index --sch": ["--scheduler"],
 }

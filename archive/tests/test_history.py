@@ -167,11 +167,6 @@ def test_stopped(home, folder, new_store):
     count_same("after it was stopped", sorted(changes(home, new_store, "--since", since, status=1)), wanted)
 
 
-def fits(home, store):
-    rows = map(json.loads, ended(home, "check", "--all", "--json", "--store", store).stdout.splitlines())
-    return {it["file"].rpartition("/archive/")[2] for it in rows if it["state"] == "fits"}
-
-
 def test_killed_before_its_end(home, folder):
     """What an index found that was killed is not lost to who asks after the next one, and until then it is said that something is yet to be read."""
     write_files(folder, {f"many/{number // 10}/{number}": b"text" for number in range(3000)})
@@ -196,19 +191,6 @@ def test_killed_before_its_end(home, folder):
     time.sleep(1.1)
     command(home, "index", folder, "--store", "killed.db")
     count_same("after the next one", changes(home, "killed.db"), [])
-
-
-def test_named_and_gone(home, folder, new_store):
-    """A folder or a file that is named, is not there and was stored is gone, and that is said."""
-    command(home, "index", folder / "gone", folder / "deep", folder / "a.txt", "--store", new_store)
-    time.sleep(1.1)
-    shutil.rmtree(folder / "gone")
-    (folder / "a.txt").unlink()
-    said = command_says(home, "index", folder / "gone", folder / "deep", folder / "a.txt", folder / "never", "--store", new_store, status=1)
-    count_if("what is named and gone", " 3 gone: " in said and said.count("there is no file or folder of this name") == 3, said)
-    listed = [("gone", "a.txt", "text", None), ("gone", "gone/d.txt", "text", None), ("gone", "gone/d.txt.p7s", "fits", None)]
-    count_same("it is listed", sorted(changes(home, new_store, status=1)), listed)
-    count_same("and not told as it was", fits(home, new_store), {"deep/c.txt.p7s"})
 
 
 def test_came_back(home, folder, new_store):

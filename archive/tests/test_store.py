@@ -442,7 +442,7 @@ def test_replaced(home, archive, make):
     said = command_says(home, "export", "--to", home / "replaced copies", "--store", "replaced.db", status=1)
     count_same("export of files that were replaced", sorted(line.rpartition(": ")[2] for line in said.splitlines()), sorted(errors))
     said = command_says(home, "index", folder, "--store", "replaced.db")
-    count_same("files that are no files any more", said.splitlines()[0], "0 files read, 0 unchanged, 2 gone")
+    count_same("files that are no files any more", said.splitlines()[0], "0 files read, 0 unchanged, 2 gone: `cms-canon-archive changes` names them")
 
 
 # Runs a command, and prints the peak of memory of its processes. What pytest begins would have that of pytest, from which it is forked.
