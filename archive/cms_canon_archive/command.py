@@ -332,7 +332,7 @@ def index_command(
 
 
 def _settings(given: Sequence[str], excluded: Sequence[str], one_file_system: bool) -> Settings:
-    """Returns what an index is told to leave out, and by which certificates it verifies."""
+    """Returns what an index is to leave out, and by which certificates it verifies."""
     from .settings import MOST_EXCLUDED, MOST_OCTETS, Settings
 
     certificates = _certificates_in(given) if given else ()

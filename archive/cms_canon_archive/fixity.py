@@ -138,14 +138,14 @@ def manifest_in(path: str) -> Manifest:
     return Manifest(digests, own, path_text_of(os.path.join(folder, "data")) + "/" if is_of_bag else None)
 
 
-def _read(line: bytes, is_of_bag: bool, where: str) -> Tuple[bytes, bytes]:
+def _read(line: bytes, is_of_bag: bool, place: str) -> Tuple[bytes, bytes]:
     """Returns the name and the SHA-256 in a line."""
     if found := _TAGGED.fullmatch(line):
         escaped, name, digest = found.groups()
     elif found := _LINE.fullmatch(line):
         escaped, digest, name = found.groups()
     else:
-        raise Complaint(f"{where} is not a SHA-256 in 64 hexadecimal digits and a name, as sha256sum and BagIt write them")
+        raise Complaint(f"{place} is not a SHA-256 in 64 hexadecimal digits and a name, as sha256sum and BagIt write them")
     if escaped:
         name = re.sub(rb"\\[\\nr]", lambda it: _ESCAPES[it[0]], name)
     if is_of_bag:
@@ -178,5 +178,5 @@ def differing(store: Store, manifest: Manifest, tops: Sequence[str]) -> Iterator
 
 
 def _is_there(path: str) -> bool:
-    """Whether there is anything at a path, which an index may have left out, or was not told to read."""
+    """Whether there is anything at a path, which an index may have left out, or was not to read."""
     return not is_cut(path) and os.path.lexists(name_of_text(path))

@@ -1,7 +1,7 @@
 """What places in an archive were before: the database keeps each row that is dropped, and here it is compared with what came after it.
 
 The database does that itself, by a trigger, so that no worker can leave out what was there. A row that came again as it was is dropped from
-the history when an index ends; until then it is not told apart, since the files of a folder may move from one part to another.
+the history when an index ends; until then it stays there, since the files of a folder may move from one part to another.
 """
 
 from __future__ import annotations

@@ -1,4 +1,4 @@
-"""What an index leaves out, and by which certificates it verifies signatures: told to all workers by the store, since each part says its settings."""
+"""What an index leaves out, and by which certificates it verifies signatures: workers read it from the store, in which each part has its settings."""
 
 from __future__ import annotations
 

@@ -182,7 +182,7 @@ _IS_MESSAGE = FILES.c.what == Class.MESSAGE.value
 _IS_REFUSED = FILES.c.what == Class.REFUSED.value
 _IS_WRONG = FILES.c.what.in_(_WRONG)
 _IS_WRONG_INSIDE = (sa.func.coalesce(FILES.c.verdict, "") == "wrong") | sa.func.coalesce(FILES.c.note, "").like(f"%token %: {State.DIFFERS.value}%")
-_STATE = sa.case((_IS_WRONG_INSIDE, State.DIFFERS.value), else_=sa.func.coalesce(FILES.c.state, NOT_JUDGED))  # a wrong signature or time-stamp is told as one
+_STATE = sa.case((_IS_WRONG_INSIDE, State.DIFFERS.value), else_=sa.func.coalesce(FILES.c.state, NOT_JUDGED))  # a wrong signature or time-stamp counts as one
 
 
 @contextmanager

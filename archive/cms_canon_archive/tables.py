@@ -95,7 +95,7 @@ class Now(sa.sql.ColumnElement):  # type: ignore[misc]  # SQLAlchemy 1.4 has no 
 
 @compiles(Now, "postgresql")  # type: ignore[misc]  # likewise
 def _now_in_postgresql(element: Now, compiler: Any, **how: Any) -> str:
-    return "floor(extract(epoch FROM now()))::bigint"  # a cast alone would round
+    return "floor(extract(epoch FROM now()))::bigint"  # a cast by itself would round
 
 
 @compiles(Now)  # type: ignore[misc]  # likewise

@@ -221,7 +221,7 @@ def indexed_by_nobody(home, folder):
 
 @pytest.mark.skipif(not AS_NOBODY, reason="only root can begin a process of another user")
 def test_unreadable_folder(home, folder):
-    """What lies below a folder that cannot be read any more is not told as it was."""
+    """What lies below a folder that cannot be read any more is not reported as it was."""
     words = indexed_by_nobody(home, folder)
     manifest = ran(home, "manifest", "--sha256sum", *words).stdout
     (home / "list").write_text(manifest)
@@ -245,7 +245,7 @@ def test_unreadable_folder(home, folder):
 
 @pytest.mark.skipif(not AS_NOBODY, reason="only root can begin a process of another user")
 def test_folder_that_cannot_be_entered(home, folder):
-    """What lies in a folder below one that can be listed and not entered is not told as it was."""
+    """What lies in a folder below one that can be listed and not entered is not reported as it was."""
     write_files(folder, {"outer/inner/doc": DOCUMENT})
     words = indexed_by_nobody(home, folder)
     time.sleep(1.1)

@@ -432,7 +432,7 @@ def test_years(home, archive):
     count_if("the plot of renewal", any("cease to be protected" in it and f"{most}: {known[most]} signatures" in it for it in texts), texts)
     years = {None: 3, 1066: 1, 2006: 1, 2007: 2, 2065: 1, 2066: 5, 9999: 7}
     charts = archive.report.charts_of(summary._replace(renewal=years), 2026)
-    count_if("years that are far away are in the table alone", "from 2006 to 2065" in charts["renewal"], charts["renewal"][:300])
+    count_if("years that are far away are only in the table", "from 2006 to 2065" in charts["renewal"], charts["renewal"][:300])
     for years in ({}, None, {None: 2}, {9999: 1}):
         count_same(f"no plot of {years}", "renewal" in archive.report.charts_of(summary._replace(renewal=years), 2026), False)
     judge_page("nothing that reads a policy", archive.report.page_of(summary._replace(renewal=None), "years"))

@@ -1,4 +1,4 @@
-"""What an index leaves out, and by which certificates it verifies: each worker does what the index was told, and `verify-store` knows it.
+"""What an index leaves out, and by which certificates it verifies: each worker does what the index was called with, and `verify-store` knows it.
 
 A loop over the names says what has to be left out. File systems of their own are mounted in a name space of a test's own, if that is allowed.
 """
