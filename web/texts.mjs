@@ -2,7 +2,7 @@
 
 export const REFUSALS = [
     { name: "Truncated", means: "The input ends before the message does. At 0 it is empty.", remedy: "Get the whole message." },
-    { name: "TooLarge", means: "The message, its DER, the detached content or the data have more than 268,435,456 octets, or a length in the message says so.", remedy: "If it is not damaged, use a program of your own, which can give a larger limit." },
+    { name: "TooLarge", means: "The message, its DER, the detached content or the data have more than 268,435,456 octets, or a length in the message says so.", remedy: "If it is not damaged: `cms-canon-archive check FILE DOCUMENT` takes content and data of any length, `cms-canon-archive convert --limit` longer messages, and a program of your own can give a larger limit." },
     { name: "LengthReserved", means: "A length is malformed.", remedy: "Get the message again: it is damaged, or was badly made." },
     { name: "LengthTooLong", means: "A length is malformed.", remedy: "Get the message again: it is damaged, or was badly made." },
     { name: "IndefinitePrimitive", means: "A length is malformed.", remedy: "Get the message again: it is damaged, or was badly made." },

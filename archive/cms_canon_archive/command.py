@@ -10,7 +10,7 @@ from contextlib import contextmanager, nullcontext
 from functools import partial, wraps
 from itertools import islice
 from pathlib import Path
-from typing import TYPE_CHECKING, Any, Callable, Dict, Iterable, Iterator, List, Optional, Sequence, Tuple, TypeVar
+from typing import TYPE_CHECKING, Any, Callable, Dict, Iterable, Iterator, List, Optional, Sequence, Set, Tuple, TypeVar
 
 import click
 
@@ -23,6 +23,7 @@ if TYPE_CHECKING:
     from .fixity import Line, Manifest
     from .filters import Filters
     from .judging import Verification
+    from .outcomes import Outcome
     from .queries import Totals
     from .reading import Row
     from .settings import Settings
@@ -224,25 +225,31 @@ def _pipe(paths: Sequence[str], url: str) -> str:
     return f"parallel --nonall --sshloginfile hosts {work} & cms-canon-archive index {named} --store {store} --jobs 0; wait"
 
 
-def _end_if_missing(paths: Sequence[str]) -> None:
-    """Ends the command with status 1 if not all paths are there."""
-    from .texts import text_of
+def _missing(paths: Iterable[str]) -> List[Tuple[str, str]]:
+    """Returns which of the paths are not there, and why."""
     from .walking import is_there
 
-    missing = [path for path in paths if not is_there(path)]
-    for path in missing:
-        click.echo(f"{text_of(path)}: {_why_missing(path)}", err=True)
+    return [(path, _why_missing(path)) for path in paths if not is_there(path)]
+
+
+def _end_if_missing(missing: Sequence[Tuple[str, str]]) -> None:
+    """Ends the command with status 1 if any path is not there."""
+    from .texts import text_of
+
+    for path, why in missing:
+        click.echo(f"{text_of(path)}: {why}", err=True)
     if missing:
         sys.exit(1)
 
 
 def _why_missing(path: str) -> str:
     from .containers.files import kind_of
+    from .folders import NOT_THERE
 
     try:
         return f"it is {kind_of(os.stat(path).st_mode)}, and no file or folder"
-    except OSError:
-        return "there is no file or folder of this name"
+    except OSError as error:
+        return "there is no file or folder of this name" if error.errno in NOT_THERE else f"it cannot be looked at: {error.strerror}"
 
 
 _together = click.option("--together", type=click.IntRange(1), default=TOGETHER, show_default=True, help="Files stored in one transaction.")
@@ -300,7 +307,7 @@ def index_command(
     from .queries import totals
     from .showing import Bar
     from .store import Store
-    from .walking import is_there, tops_of
+    from .walking import is_there, place_of, tops_of
     from .writing import write
 
     if via_pipe:
@@ -313,8 +320,8 @@ def index_command(
     settings = _settings(given, excluded, one_file_system)
     listed = _said_wrong(partial(manifest_in, manifest)) if manifest else None
     store = Store(url, makes=True, wait=wait)
-    tops = tops_of(filter(is_there, paths))
-    plan = Plan(tops, Options(together, patience), jobs, scheduler, anew, verifies or bool(given), settings)
+    tops, missing = tops_of(filter(is_there, paths)), _missing(paths)
+    plan = Plan(tops, Options(together, patience), jobs, scheduler, anew, verifies or bool(given), settings, [(place_of(it), why) for it, why in missing if it])
     with Bar() as bar:
         done = index(store, plan, line_of, bar.show)
     store = Store(url, wait=wait)
@@ -327,7 +334,7 @@ def index_command(
     click.echo(f"{done.files} files read, {done.unchanged} unchanged, {done.gone} gone{names}", err=True)
     for line in _lines_of_totals(found):
         click.echo(line, err=True)
-    _end_if_missing(paths)
+    _end_if_missing(missing)
     sys.exit(1 if differs else 3 if found.unreadable else 0)
 
 
@@ -480,12 +487,12 @@ def rows_command(paths: Tuple[str, ...], verifies: bool) -> None:
     from .walking import entries_of, is_there, tops_of
     from .writing import write
 
-    count = 0
+    count, missing = 0, _missing(paths)
     for part in parts_of(entries_of(tops_of(filter(is_there, paths))), BY_MESSAGE if verifies else NOT_VERIFIED):
         write(part.rows, "json", ())
         count += len(part.rows)
     click.echo(json.dumps({"end": count}))
-    _end_if_missing(paths)
+    _end_if_missing(missing)
 
 
 @main.command("load")
@@ -544,7 +551,7 @@ def check_command(
     the standard input. The status is 0 only if each digest of each message and of each time-stamp in it was compared, and fits, and with --verify or
     --certificates if the signature of each signer is right. It is 1 if a digest does not fit, or a signature is wrong, and 3 if anything is not known.
 
-    Without FILE, the status is 1 if the digests of any message or of a token in it do not fit, or a signature is wrong, whether it is listed or not.
+    Without FILE, the status is likewise that of all messages that somebody signed, listed or not, and 3 if anything is refused, damaged or unreadable.
     """
     if file is not None:
         if all_of_them or noted or any(it is not None for it in filters):
@@ -554,23 +561,40 @@ def check_command(
         raise click.UsageError("--verify and --certificates are for FILE; those of the index are verified by `index --verify`")
     if noted and folders:
         raise click.UsageError("--noted lists messages that fit, so that --content-in finds nothing for them")
-    from . import queries, rechecking
-    from .containers.found import State
+    from . import queries
+    from .outcomes import Outcome, worst
     from .writing import write
 
-    differs = False
+    came: Set[Outcome] = set()
 
     def rows() -> Iterator[Dict[str, Any]]:
-        nonlocal differs
         store = _opened(url, wait, filters.under)
-        is_any, every = all_of_them or filters.state is not None, filters._replace(limit=None)
-        for number, row in enumerate(_with_name(queries.noted(store, every) if noted else rechecking.checked_in(store, folders, is_any, every))):
-            differs = differs or row["state"] == State.DIFFERS.value or row["verdict"] == "wrong" or row["wrong_times"] > 0
-            if filters.limit is None or number < filters.limit:
-                yield row
+        if not folders:
+            came.update(queries.outcomes(store, filters))
+        is_any = all_of_them or filters.state is not None
+        yield from _with_name(queries.noted(store, filters) if noted else _checked(store, folders, is_any, filters, came))
+        if unread := queries.unread(store, filters):
+            came.add(Outcome.NOT_KNOWN)
+            what, them = ("files or members are", "them") if unread > 1 else ("file or member is", "it")
+            click.echo(f"{unread:,} {what} refused, damaged, too large or could not be read: `cms-canon-archive refusals` lists {them}", err=True)
 
     write(rows(), form, ("state", "findings", "verdict", "note", "file"))
-    sys.exit(1 if differs else 0 if _is_whole() else 3)
+    sys.exit(worst(came if _is_whole() else {*came, Outcome.NOT_KNOWN}, default=Outcome.FITS))
+
+
+def _checked(store: Store, folders: Sequence[str], all_of_them: bool, filters: Filters, came: Set[Outcome]) -> Iterator[Row]:
+    """Gives the messages of an index. If their contents are looked for in folders, what came of each is added, listed or not."""
+    from .outcomes import Outcome
+    from .queries import checked
+    from .rechecking import checked_in
+
+    if not folders:
+        yield from checked(store, all_of_them, filters)
+        return
+    for number, row in enumerate(checked_in(store, folders, all_of_them, filters._replace(limit=None))):
+        came.add(Outcome(row["outcome"]))
+        if filters.limit is None or number < filters.limit:
+            yield row
 
 
 def _verification(verifies: bool, given: Sequence[str]) -> Verification:
@@ -584,7 +608,8 @@ def _verification(verifies: bool, given: Sequence[str]) -> Verification:
 
 def _check_file(file: str, document: Optional[str], how: Verification, form: Optional[str], folders: Sequence[str]) -> int:
     """Says whether the messages in a file fit what they sign, and returns the status."""
-    from .one_file import judged_in, lines_of, worst
+    from .one_file import judged_in, lines_of
+    from .outcomes import worst
     from .reading import read_of, row_in_file
     from .texts import shown
     from .walking import entry_of
@@ -594,7 +619,7 @@ def _check_file(file: str, document: Optional[str], how: Verification, form: Opt
     with _given(file, document) as (path, other, progress):
         messages = _each(judged_in(path, other, how, progress, form is not None, folders), lambda it: outcomes.append(it.outcome))
         if form is not None:
-            rows = ({"path": file, **row_in_file(read_of(entry_of(path), it.found, it.facts, how))} for it in messages)
+            rows = ({"path": file, **row_in_file(read_of(entry_of(path), it.found, it.facts, how)), "outcome": int(it.outcome)} for it in messages)
             write(_with_name(rows), form, ("state", "findings", "verdict", "note", "file"))
         for it in messages:
             first, *others = lines_of(it, how)

@@ -19,10 +19,13 @@ from .folders import FEW, LARGE, texts_of_folder
 from .opening import WORKERS_ENDING, for_others
 from .options import Options
 from .processes import Processes
-from .reading import Part
+from .judging import judged
+from .reading import Entry, Part, read_of, unread
 from .settings import NO_SETTINGS, Settings
 from .settings import put as put_settings
 from .history import BEGAN, ENDED
+from .spool import Spool
+from .spool import store as store_rows
 from .store import Store
 from .tables import IS_TAKEN, IS_TO_DO, OF_PARTS, PARTS, Now, insertion
 from .texts import path_text_of, text_of
@@ -43,14 +46,20 @@ _GRACE = 10.0  # seconds without any worker after which a cluster is asked to be
 _ASKED_AGAIN = 3.0  # seconds between two looks at the workers of a cluster
 _MOST_BEGINNINGS = 3  # of the workers of a cluster, while nothing is done
 
+Missing = Tuple[str, str]  # a path that was named and is not there, and why
 Show = Callable[[State, Counts], None]  # shows where an index is, and what was done since it began
 
 
 # ---- what is to be done
 
 
-def put_in(store: Store, tops: Sequence[str], anew: bool = False, verifies: bool = False, settings: Settings = NO_SETTINGS) -> int:
-    """Has the parts of these folders and files done, and done again if they are done or being done. Returns how many are to be done, at most 10,000."""
+def put_in(
+    store: Store, tops: Sequence[str], anew: bool = False, verifies: bool = False, settings: Settings = NO_SETTINGS, missing: Iterable[Missing] = ()
+) -> int:
+    """Has the parts of these folders and files done, and done again if they are done or being done. Returns how many are to be done, at most 10,000.
+
+    `missing` are paths that were named and are not there: what the index has of one is kept, and a row says so.
+    """
 
     began = _beginning(store)
 
@@ -61,6 +70,8 @@ def put_in(store: Store, tops: Sequence[str], anew: bool = False, verifies: bool
             how = {"anew": anew, "verifies": verifies, "settings": put_settings(connection, settings)}
             for top in tops:
                 _put_top(connection, top, os.path.isdir(top), how)
+            for path, why in missing:
+                _note_missing(connection, path, why)
             some = sa.select(PARTS.c.id).where(IS_TO_DO).limit(_MOST_COUNTED).subquery()
             return int(connection.execute(sa.select(sa.func.count()).select_from(some)).scalar_one())
 
@@ -96,6 +107,21 @@ def _put_top(connection: sa.engine.Connection, top: str, is_folder: bool, how: D
         others = sa.select(PARTS.c.id).where(own, PARTS.c.name == "")
         for table in OF_PARTS:
             connection.execute(sa.delete(table).where(table.c.part.in_(others), table.c.file == name))
+
+
+def _note_missing(connection: sa.engine.Connection, path: str, why: str) -> None:
+    """Puts a row in an index that has anything of a folder or a file which is not there. It goes when the folder is read again."""
+    folder, name = texts_of_folder(path)[0], text_of(os.path.basename(path))
+    of_file = (PARTS.c.path == texts_of_folder(os.path.dirname(path))[0]) & (PARTS.c.name == name)
+    is_own = ((PARTS.c.path == folder) & (PARTS.c.name == "") & (PARTS.c.chunk == 0)) | of_file
+    entry = Entry(path, 0, 0, 0)
+    found = unread(entry, why)
+    for part in connection.execute(sa.select(PARTS.c.id).where(is_own, PARTS.c.is_stored)).scalars().all():
+        for table in OF_PARTS:
+            connection.execute(sa.delete(table).where(table.c.part == part, table.c.file == ""))
+        rows = Spool(None)
+        rows.add(part, "", read_of(entry, found, judged(found)))
+        store_rows(connection, rows.pieces())
 
 
 # ---- having it done
@@ -134,6 +160,7 @@ class Plan(NamedTuple):
     anew: bool
     verifies: bool
     settings: Settings = NO_SETTINGS
+    missing: Sequence[Missing] = ()
 
 
 def index(store: Store, plan: Plan, line_of: Callable[[Exception], Optional[str]], show: Show) -> Done:
@@ -145,7 +172,7 @@ def index(store: Store, plan: Plan, line_of: Callable[[Exception], Optional[str]
     cluster = _cluster_of(plan.scheduler) if plan.scheduler else None
     with store.engine.connect() as connection:
         before = counts_in(connection)
-    to_do = put_in(store, plan.tops, plan.anew, plan.verifies, plan.settings)
+    to_do = put_in(store, plan.tops, plan.anew, plan.verifies, plan.settings, plan.missing)
     store.close()  # or processes begun now would have its connections
     if cluster is not None:
         _by_cluster(watch, cluster, plan, partial(show_since, show, before))

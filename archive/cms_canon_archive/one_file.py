@@ -8,7 +8,6 @@ import sys
 import tempfile
 from contextlib import contextmanager, suppress
 from dataclasses import replace
-from enum import IntEnum
 from pathlib import Path
 from typing import Callable, Dict, Iterable, Iterator, List, NamedTuple, Optional, Sequence, Set
 
@@ -16,9 +15,9 @@ from . import elsewhere
 from .containers.armour import blocks_of
 from .containers.files import beside
 from .containers.found import Class, Found, Octets, State
-from .containers.names import READERS_DIFFER
 from .faults import Complaint
-from .judging import BY_MESSAGE, MOST_LISTED, NOT_VERIFIED, Facts, Verification, verification_by
+from .judging import BY_MESSAGE, NOT_VERIFIED, Facts, Verification, verification_by
+from .outcomes import Outcome, outcome_of
 from .reading import found_in_entry, judged_or_not, wanted_beside
 from .walking import entry_of
 
@@ -29,17 +28,6 @@ _OF_NO_MESSAGE = (Class.CONTAINER, Class.EMPTY, Class.TEXT, Class.NO_CANDIDATE)
 Progress = Callable[[int], object]  # takes how many octets were read since the last call
 
 
-class Outcome(IntEnum):
-    """What came of a message, as the status that a command ends with: the worst of all is that of the file."""
-
-    FITS = 0
-    NOT_KNOWN = 3
-    DIFFERS = 1
-
-
-_BY_WEIGHT = (Outcome.FITS, Outcome.NOT_KNOWN, Outcome.DIFFERS)
-
-
 class Judged(NamedTuple):
     """What is at one place in a file, and what is known of it."""
 
@@ -48,19 +36,8 @@ class Judged(NamedTuple):
 
     @property
     def outcome(self) -> Outcome:
-        """Whether it fits its document: only if each digest was compared, those of time-stamps too, no reader takes the file otherwise, and each
-        signature that was to be verified is right."""
-        facts = self.facts
-        if State.DIFFERS in (facts.state, *(it.state for it in facts.times)) or facts.verdict == "wrong":
-            return Outcome.DIFFERS
-        is_known = facts.verdict != "unknown" and READERS_DIFFER not in facts.note and len(facts.times) < MOST_LISTED
-        is_known = is_known and all(it is State.FITS for it in (facts.state, *(it.state for it in facts.times)))
-        return Outcome.FITS if is_known else Outcome.NOT_KNOWN
-
-
-def worst(outcomes: Iterable[Outcome]) -> Outcome:
-    """Returns the worst of some outcomes; that nothing is known if there is none."""
-    return max(outcomes, key=_BY_WEIGHT.index, default=Outcome.NOT_KNOWN)
+        """What came of it."""
+        return outcome_of(self.facts)
 
 
 @contextmanager

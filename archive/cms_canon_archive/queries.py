@@ -6,14 +6,17 @@ from collections import Counter
 from enum import Enum
 from itertools import groupby
 from operator import itemgetter
-from typing import Any, Dict, Iterator, List, NamedTuple, Optional, Sequence
+from typing import Any, Dict, Iterator, List, NamedTuple, Optional, Sequence, Set
 
 import sqlalchemy as sa
 
 from .containers.found import GOOD, Class, State
 from .containers.manifests import WEAK_ALONE
 from .containers.names import READERS_DIFFER
+from .containers.refused import is_named
 from .filters import ALL, Filters
+from .judging import MOST_LISTED
+from .outcomes import Outcome
 from .reading import Row
 from .store import FILES, SIGNERS, TIMES, Store
 from .tables import HISTORY, IS_TAKEN, IS_TO_DO, PARTS, PLACE_TIMES, PLACES, of_same_place, shown
@@ -24,6 +27,7 @@ FEWEST_BITS = 2048  # of a key of RSA or DSA that is not weak
 
 
 _REFUSED = (Class.REFUSED.value, Class.DAMAGED.value, Class.TOO_LARGE.value)
+IS_UNREAD = FILES.c.what.in_((Class.DAMAGED.value, Class.TOO_LARGE.value, Class.UNREADABLE.value))
 
 
 class Group(NamedTuple):
@@ -161,24 +165,50 @@ def changed(store: Store, filters: Filters = ALL) -> Iterator[Row]:
 
 
 _UNSIGNED = ("request", "certificates")  # the kinds of messages that nobody is to sign
+_IS_SIGNED = sa.func.coalesce(FILES.c.kind, "").not_in(_UNSIGNED)
+
+
+def _outcome() -> Any:
+    """Returns the outcome of a message in `FILES`, as `outcome_of` has it; of one that nobody is to sign, that it fits if nothing differs."""
+    own = sa.select(PLACE_TIMES.c.state).where(of_same_place(PLACE_TIMES, FILES)).correlate(FILES)
+    weight = sa.case((PLACE_TIMES.c.state == State.FITS.value, 1), else_=MOST_LISTED)  # so that one look at the time-stamps says whether all fit, and all are stored
+    all_times = sa.func.coalesce(own.with_only_columns(sa.func.sum(weight)).scalar_subquery(), 0) < MOST_LISTED
+    is_one = sa.not_(sa.func.coalesce(FILES.c.note, "").contains(READERS_DIFFER))
+    fits = (FILES.c.state == State.FITS.value) & sa.func.coalesce(FILES.c.verdict, "").not_in(("wrong", "unknown")) & is_one & all_times
+    differs = (FILES.c.state == State.DIFFERS.value) | (FILES.c.verdict == "wrong") | own.where(PLACE_TIMES.c.state == State.DIFFERS.value).exists()
+    known = ((fits, int(Outcome.FITS)), (differs, int(Outcome.DIFFERS)), (sa.not_(_IS_SIGNED), int(Outcome.FITS)))
+    return sa.case(*known, else_=int(Outcome.NOT_KNOWN))
 
 
 def checked(store: Store, all_of_them: bool, filters: Filters = ALL) -> Iterator[Row]:
-    """Gives the messages, or only those that somebody signed and that are not said to fit, on which readers differ, that break a rule, or with a
-    token that does not fit.
+    """Gives the messages, or only those that somebody signed and that are not known to fit, that break a rule, or on which readers differ.
 
-    `wrong_times` is how many tokens do not fit, of the message itself and of those in unsigned attributes.
+    `outcome` is what came of one. `wrong_times` is how many tokens do not fit, of the message itself and of those in unsigned attributes.
     """
-    is_message = FILES.c.what == Class.MESSAGE.value
+    is_message, outcome = FILES.c.what == Class.MESSAGE.value, _outcome()
     of_message = of_same_place(PLACE_TIMES, FILES) & (PLACE_TIMES.c.state == State.DIFFERS.value)
     wrong = sa.select(sa.func.count()).select_from(PLACE_TIMES).where(of_message).correlate(FILES).scalar_subquery()
-    is_right = (sa.func.coalesce(FILES.c.verdict, "") != "wrong") & (wrong == 0)
-    is_one = sa.not_(sa.func.coalesce(FILES.c.note, "").contains(READERS_DIFFER))
-    is_well = (FILES.c.state == State.FITS.value) & (FILES.c.findings == "") & is_right & is_one
-    is_signed = sa.func.coalesce(FILES.c.kind, "").not_in(_UNSIGNED)
-    asked = is_message if all_of_them else is_message & is_signed & sa.not_(sa.func.coalesce(is_well, False))
-    rows = sa.select(*shown(FILES), wrong.label("wrong_times")).where(asked).order_by(FILES.c.path, FILES.c.member)
+    is_well = (outcome == int(Outcome.FITS)) & (sa.func.coalesce(FILES.c.findings, "") == "")
+    asked = is_message if all_of_them else is_message & _IS_SIGNED & sa.not_(is_well)
+    rows = sa.select(*shown(FILES), wrong.label("wrong_times"), outcome.label("outcome")).where(asked).order_by(FILES.c.path, FILES.c.member)
     return store.asked(filters.of(rows, FILES))
+
+
+def outcomes(store: Store, filters: Filters = ALL) -> Set[Outcome]:
+    """Returns what came of the messages that are wanted, however many of them are listed."""
+    outcome = _outcome().label("outcome")
+    asked = sa.select(outcome).where(FILES.c.what == Class.MESSAGE.value).distinct()
+    return {Outcome(row["outcome"]) for row in store.asked(filters.where(asked, FILES))}
+
+
+def unread(store: Store, filters: Filters = ALL) -> int:
+    """Counts the files, and what is in files, of whose messages nothing is known: what is damaged, too large or cannot be read, and what is refused and not
+    said to be something else."""
+    is_folder = (FILES.c.of_file == "") & sa.exists().where(PARTS.c.id == FILES.c.of_part, PARTS.c.name == "").correlate(FILES)
+    is_refused = FILES.c.what == Class.REFUSED.value
+    note = sa.case((is_refused, sa.func.coalesce(FILES.c.note, "")), else_="").label("note")
+    asked = sa.select(note, sa.func.count().label("count")).where(IS_UNREAD | is_refused, sa.not_(is_folder)).group_by(note)
+    return sum(int(row["count"]) for row in store.asked(filters.where(asked, FILES)) if not is_named(str(row["note"])))
 
 
 IS_NOTED = (FILES.c.what == Class.MESSAGE.value) & (FILES.c.state == State.FITS.value) & (sa.func.coalesce(FILES.c.note, "") != "")
@@ -186,7 +216,7 @@ IS_NOTED = (FILES.c.what == Class.MESSAGE.value) & (FILES.c.state == State.FITS.
 
 def noted(store: Store, filters: Filters = ALL) -> Iterator[Row]:
     """Gives the messages that fit, and of which something else is to be said; `wrong_times` is 0, since none of them is asked for its tokens."""
-    rows = sa.select(*shown(FILES), sa.literal(0).label("wrong_times")).where(IS_NOTED).order_by(FILES.c.path, FILES.c.member)
+    rows = sa.select(*shown(FILES), sa.literal(0).label("wrong_times"), _outcome().label("outcome")).where(IS_NOTED).order_by(FILES.c.path, FILES.c.member)
     return store.asked(filters.of(rows, FILES))
 
 

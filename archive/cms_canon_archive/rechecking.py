@@ -12,6 +12,7 @@ from .elsewhere import Digest, digest_said, files_in, search, with_content
 from .filters import Filters
 from .folders import path_named_by
 from .judging import BY_MESSAGE, NOT_VERIFIED, Verification
+from .outcomes import Outcome, outcome_of
 from .queries import checked
 from .reading import Row, found_in_entry, read_of, row_in_file
 from .settings import verification_in
@@ -35,12 +36,8 @@ def checked_in(store: Store, folders: Sequence[str], all_of_them: bool, filters:
         again = None if content is None else _judged_again(store, row, content)
         if again is None:
             yield row
-        elif (filters.state is None or again["state"] == filters.state) and (all_of_them or not _is_well(again)):
+        elif (filters.state is None or again["state"] == filters.state) and (all_of_them or again["outcome"] != Outcome.FITS or again["findings"]):
             yield again
-
-
-def _is_well(row: Row) -> bool:
-    return row["state"] == State.FITS.value and not row["findings"] and not row["wrong_times"] and row["verdict"] != "wrong"
 
 
 def _judged_again(store: Store, row: Row, content: str) -> Optional[Row]:
@@ -52,7 +49,7 @@ def _judged_again(store: Store, row: Row, content: str) -> Optional[Row]:
         if found.where == row["member"] and found.what is Class.MESSAGE:
             judged = with_content(found, content, how)
             if judged is not None and judged[1].digest is not None and judged[1].digest.hex() == row["digest"]:
-                return {**row, **row_in_file(read_of(entry_of(path), *judged, how))}
+                return {**row, **row_in_file(read_of(entry_of(path), *judged, how)), "outcome": int(outcome_of(judged[1]))}
     return None
 
 

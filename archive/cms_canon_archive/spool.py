@@ -23,8 +23,8 @@ TOGETHER = 10_000  # rows that are in memory: the rows of a tar may be millions
 class Spool:
     """Rows of all tables of a place, in memory, or in a file without a name if they are many."""
 
-    def __init__(self, worker: int) -> None:
-        """`worker` is the number of who reads them."""
+    def __init__(self, worker: Optional[int]) -> None:
+        """`worker` is the number of who reads them, if it has one."""
         self._worker = (worker,)
         self._rows: Dict[sa.Table, List[Values]] = {PLACES: [], **{it: [] for it in LISTS.values()}}
         self._tables = list(self._rows)

@@ -14,7 +14,7 @@ from .containers.found import Class, State
 from .faults import Complaint
 from .history import Changes, changes_counted
 from .policy import policy_in
-from .queries import IS_NOTED, IS_WITHOUT_MESSAGE, is_weak, name_of
+from .queries import IS_NOTED, IS_UNREAD, IS_WITHOUT_MESSAGE, is_weak, name_of
 from .store import FILES, SIGNERS, TIMES, Store
 from .tables import PLACE_SIGNERS, PLACE_TIMES, Now, of_same_place
 
@@ -25,7 +25,6 @@ MOST_POWERS = 48  # a file is shorter than 2 to this many octets
 NOT_JUDGED = "not judged"
 KINDS = ("signature", "token", "response", "request", "certificates")
 _ONLY_NAMED = (Class.OTHER.value, Class.NOT_LOOKED_INTO.value)
-_WRONG = (Class.DAMAGED.value, Class.TOO_LARGE.value, Class.UNREADABLE.value)
 
 
 class Kind(NamedTuple):
@@ -180,9 +179,8 @@ class Summary(NamedTuple):
 
 _IS_MESSAGE = FILES.c.what == Class.MESSAGE.value
 _IS_REFUSED = FILES.c.what == Class.REFUSED.value
-_IS_WRONG = FILES.c.what.in_(_WRONG)
-_IS_WRONG_INSIDE = (sa.func.coalesce(FILES.c.verdict, "") == "wrong") | sa.func.coalesce(FILES.c.note, "").like(f"%token %: {State.DIFFERS.value}%")
-_STATE = sa.case((_IS_WRONG_INSIDE, State.DIFFERS.value), else_=sa.func.coalesce(FILES.c.state, NOT_JUDGED))  # a wrong signature or time-stamp counts as one
+IS_UNREAD_INSIDE = (sa.func.coalesce(FILES.c.verdict, "") == "wrong") | sa.func.coalesce(FILES.c.note, "").like(f"%token %: {State.DIFFERS.value}%")
+_STATE = sa.case((IS_UNREAD_INSIDE, State.DIFFERS.value), else_=sa.func.coalesce(FILES.c.state, NOT_JUDGED))  # a wrong signature or time-stamp counts as one
 
 
 @contextmanager
@@ -227,9 +225,9 @@ def _refusals_of(connection: Any) -> List[Refusals]:
 
 def _unreadable_of(connection: Any) -> List[Unreadable]:
     """Returns the errors with the most files. Some errors name the member that they are about, so that there may be very many."""
-    counts = _counts(connection, FILES.c.error, _IS_WRONG)
+    counts = _counts(connection, FILES.c.error, IS_UNREAD)
     most = nsmallest(LARGEST, counts.items(), key=lambda it: (-it[1], it[0]))
-    first = _first_of(connection, FILES.c.error, _IS_WRONG & FILES.c.error.in_([error for error, _ in most]))
+    first = _first_of(connection, FILES.c.error, IS_UNREAD & FILES.c.error.in_([error for error, _ in most]))
     return [Unreadable(error, files, first[error]) for error, files in most if error is not None]
 
 

@@ -66,7 +66,7 @@ def test_verdicts(home, make):
         command(home, "index", folder, "--store", "verdicts.db", *words)
         came = {Path(it.path).name: it.state for it in store_of(home / "verdicts.db") if it.state and it.member == ""}
         count_same(f"states {' '.join(words)}", came, {**states, **alone})
-        status = 1 if differ else 0
+        status = 1 if differ else 3
         lines = lines_of(home, "check", "--store", "verdicts.db", status=status)
         differing = sorted(Path(it["file"]).name for it in lines if it["state"] == DIFFERS)
         count_same(f"check {' '.join(words)}", differing, ["broken.p7m", "wrong.p7s"] if differ else [])
@@ -249,7 +249,7 @@ def test_old_store(home, files):
     """A store of 0.17.0 gets the tables of now and keeps its rows; what it did not know is stored in it from then on."""
     with sqlite3.connect(home / "old.db") as store:
         store.executescript((DATA / "store-0.17.0.sql").read_text())
-    lines_of(home, "check", "--store", "old.db")
+    lines_of(home, "check", "--store", "old.db", status=3)
     came = {(it.path, it.member): it.state for it in store_of(home / "old.db") if it.state}
     count_same("a store of 0.17.0 that is asked", came, OLD_STORE_SAYS)
     judge_migrated(home, files, home / "old.db")

@@ -286,9 +286,15 @@ def test_absent(home, folder, made):
     os.mkfifo(home / "pipe")
     away = folder.rename(folder.with_name("away"))
     said = ended(home, "index", folder, home / "pipe", "", "--store", made.url)
-    away.rename(folder)
     is_said = said.returncode == 1 and said.stderr.count("there is no file or folder of this name") == 2 and "pipe: it is a FIFO" in said.stderr
-    count_if("what is not there", is_said and store_of(made.url) == made.whole, said)
+    count_if("what is not there", is_said, said)
+    more = set(store_of(made.url)) ^ set(made.whole)
+    count_same("nothing is dropped, and a row says so", [(row.path, row.error) for row in more], [(str(folder), "there is no file or folder of this name")])
+    said = command_says(home, "check", "--all", "--store", made.url, status=3)
+    count_if("is no all-clear", "1 folder could not be read, and what lies below is said as it was before" in said, said)
+    away.rename(folder)
+    command(home, "index", folder, "--store", made.url)
+    count_if("what is there again", store_of(made.url) == made.whole)
     for store in ("sqlite:////no/folder/index.db", "nonsense", "postgresql://host:port/name", f"sqlite:///{home}/none.db"):
         said = command_says(home, "refusals", "--store", store, status=1)
         count_if(f"the store {store}", is_line(said) and said.startswith("Error: ") and not (home / "none.db").exists(), said)

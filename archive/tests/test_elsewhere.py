@@ -15,7 +15,8 @@ ENDINGS = (".p7s", ".p7m", ".p7b", ".pkcs7", ".cms", ".sgn", ".sig", ".asc", ".P
 ALGORITHMS = ("sha1", "sha256", "sha384", "sha512")
 
 
-def states(home, *words, status=0):
+def states(home, *words, status=3):
+    """Returns what is said of each message by `check`, which ends with this status: 3 if it is not known of all whether they fit."""
     rows = lines_of(home, "check", *words, status=status)
     return {f"{Path(it['path']).name}{'!' if it['member'] else ''}{it['member']}": (it["state"], it["content"] and os.path.basename(it["content"])) for it in rows}
 
@@ -26,7 +27,7 @@ def test_endings(home, make):
     files = {f"{number}.txt{ending}": make.token(DOCUMENT) if ending == ".tst" else signed for number, ending in enumerate(ENDINGS)}
     folder = write_files(home / "archive", {**files, **{f"{number}.txt": DOCUMENT for number in range(len(ENDINGS))}})
     command(home, "index", folder)
-    count_same("all fit", {name: state for name, (state, _) in states(home, "--all").items()}, dict.fromkeys(files, "fits"))
+    count_same("all fit", {name: state for name, (state, _) in states(home, "--all", status=0).items()}, dict.fromkeys(files, "fits"))
     for name in files:
         done = ran(home, "check", folder / name)
         count_if(f"check {name}", f"fits: {name.rpartition('.')[0]}\n" in done.stdout, done.stdout)

@@ -167,6 +167,25 @@ def test_stopped(home, folder, new_store):
     count_same("after it was stopped", sorted(changes(home, new_store, "--since", since, status=1)), wanted)
 
 
+def test_full_disk(home, folder):
+    """An index that cannot write any more ends with a line, and loses nothing: each file that went meanwhile is listed after the next one."""
+    write_files(folder, {f"many/{number}": b"text" for number in range(2000)})
+    command(home, "index", folder, "--store", "full.db")
+    time.sleep(1.1)
+    since = time.strftime("%Y-%m-%dT%H:%M:%S", time.gmtime())
+    shutil.rmtree(folder / "many")
+    (folder / "text").write_bytes(b"test")
+    few = {"preexec_fn": lambda: resource.setrlimit(resource.RLIMIT_FSIZE, (1 << 16, 1 << 16))}
+    done = ended(home, "index", folder, "--store", "full.db", "--jobs", 1, **few)
+    count_if("what a full disk says", done.returncode == 1 and is_line(done.stderr.splitlines(keepends=True)[-1], "Error: ") and "Traceback" not in done.stderr, done)
+    rows = asked(home / "full.db", "SELECT count(*) FROM places")[0][0] + asked(home / "full.db", "SELECT count(*) FROM history")[0][0]
+    count_if("no row is lost", rows >= 2012, rows)
+    command(home, "index", folder, "--store", "full.db")
+    listed = changes(home, "full.db", "--since", since)
+    count_same("what went", sum(it[0] == "gone" for it in listed), 2000)
+    count_same("what changed", [it[:2] for it in listed if it[0] != "gone"], [("changed", "text")])
+
+
 def test_killed_before_its_end(home, folder):
     """What an index found that was killed is not lost to who asks after the next one, and until then it is said that something is yet to be read."""
     write_files(folder, {f"many/{number // 10}/{number}": b"text" for number in range(3000)})

@@ -76,9 +76,36 @@ def test_as_in_rows(home, folder, name):
     rows = [json.loads(it) for it in command(home, "rows", folder / file).splitlines()]
     wanted = [it for it in rows if it.get("what") in ("message", "refused", "damaged", "too large", "unreadable")]
     for words in (("check",), ("inspect",)):
-        said = ended(home, *words, folder / file, "--json").stdout.splitlines()
-        came = [{key: value for key, value in json.loads(it).items() if key != "file"} for it in said]
+        done = ended(home, *words, folder / file, "--json")
+        came = [{key: value for key, value in json.loads(it).items() if key != "file"} for it in done.stdout.splitlines()]
+        if words == ("check",):
+            outcomes = {it.pop("outcome") for it in came}
+            count_same(f"the worst outcome, {name}", next((it for it in (DIFFERS, NOT_KNOWN, FITS) if it in outcomes), NOT_KNOWN), done.returncode)
         count_same(f"{words[0]} --json, {name}", [{**it, "is_settled": None} for it in came], [{**it, "is_settled": None} for it in wanted])
+
+
+def test_in_an_index(home, folder, new_store):
+    """`check` of an index says of each message what `check` says of its file, and ends with the worst of them."""
+    command(home, "index", folder, "--store", new_store)
+    listed = lines_of(home, "check", "--all", "--store", new_store, status=NOT_KNOWN)
+    came = {(it["path"], it["member"]): it["outcome"] for it in listed}
+    wanted = {}
+    for file in {file for file, document, *_ in CASES.values() if document is None}:
+        for it in map(json.loads, ended(home, "check", folder / file, "--json").stdout.splitlines()):
+            wanted.update({(it["path"], it["member"]): it["outcome"]} if it["what"] == "message" else {})
+    count_same("outcomes", {it: came[it] for it in wanted}, wanted)
+    count_if("of each kind", set(wanted.values()) == {FITS, NOT_KNOWN}, wanted)
+    for name in ("doc.p7s", "cut.p7s", "damaged.zip", "token.tst", "elsewhere.p7s"):
+        status = ended(home, "check", folder / name).returncode
+        done = ran(home, "check", "--under", folder / name, "--store", new_store, status=status)
+        count_same(f"{name}: what is not read is said", done.stderr.count("cms-canon-archive refusals"), int(name in ("cut.p7s", "damaged.zip")))
+
+
+@pytest.mark.parametrize("word", ["check", "convert"])
+def test_named(word):
+    """The help of `cms-canon` names this command for what is longer than it takes."""
+    said = subprocess.run([RELEASE / "cms-canon", "help", word], capture_output=True, text=True, timeout=SECONDS, check=True).stdout
+    count_if(f"help {word}", "`cms-canon-archive check FILE DOCUMENT`" in said, said)
 
 
 def test_csv(home, folder):

@@ -142,7 +142,7 @@ def test_questions(home, folder):
         words = [str(given.get(it, it)) for it in shlex.split(text)]
         done = ended(home, *words)
         is_quiet = words[0] in ("times", "changed", "duplicates", "verify-store") or "--weak" in words
-        count_if(f"ARCHIVE.md: {text}", done.returncode in (0, 1) and "Usage" not in done.stderr and (is_quiet or done.stdout or done.stderr), done)
+        count_if(f"ARCHIVE.md: {text}", done.returncode in (0, 1, 3) and "Usage" not in done.stderr and (is_quiet or done.stdout or done.stderr), done)
 
 
 def test_unreadable(home, make):

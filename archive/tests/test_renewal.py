@@ -15,7 +15,7 @@ from cases import ARCHIVE_TIME_STAMP, DOCUMENT, SIGNER_INFO, TIME_STAMP, Maker, 
 from counting import count_if, count_same, is_line, needs
 from elements import element_at
 from making import write_files
-from running import SECONDS, command, ended, environment_of, lines_of, ran, words_of
+from running import command, ended, lines_of, load_lines, ran
 
 pytestmark = [pytest.mark.archive, needs("click", "tqdm", "sqlalchemy", "cryptography", tools=["openssl"])]
 MESSAGES = 600
@@ -272,15 +272,9 @@ def rows(shared_home, make):
     return [row_at_random(random, like, number) for number in range(MESSAGES)]
 
 
-def loaded(home, rows, url):
-    lines = "".join(f"{json.dumps(it)}\n" for it in rows) + json.dumps({"end": len(rows)}) + "\n"
-    done = subprocess.run(words_of("load", "--store", url), cwd=home, env=environment_of(home), input=lines, capture_output=True, text=True, timeout=SECONDS)
-    assert done.returncode == 0, done.stderr
-
-
 def test_random_rows(archive, home, rows, new_store):
     """What is listed, until when, and the years of all, are as a loop over the rows decides; each has a reason."""
-    loaded(home, rows, new_store)
+    load_lines(home, rows, new_store)
     (home / "policy.toml").write_text(POLICY, encoding="ascii")
     policy, store = archive.policy.policy_in(home / "policy.toml"), archive.store.Store(new_store)
     for by in (*DAYS, "2000-01-01", "2028-01-02", FOREVER):
@@ -317,7 +311,7 @@ def test_many_signers(archive, home, rows):
     signers = [{**rows[0]["signed_by"][0], **good, "number": str(it)} for it in range(1000)]
     times = [{**next(it for row in rows for it in row["times"]), **good, "number": f"{it}/0", "time": "2024-01-01T00:00:00Z", "state": "fits"} for it in range(1000)]
     made = [{**rows[0], "path": f"/archive/{count}.p7s", "signed_by": signers[:count], "times": times[:count]} for count in (999, 1000)]
-    loaded(home, made, f"sqlite:///{home}/many.db")
+    load_lines(home, made, f"sqlite:///{home}/many.db")
     (home / "policy.toml").write_text(POLICY, encoding="ascii")
     found = lines_of(home, "renewal", "--by", "2080-01-01", "--policy", "policy.toml", "--store", "many.db", status=1)
     count_same("a thousand signers", [(it["file"], it["number"], it["until"]) for it in found], [("/archive/1000.p7s", "", None)])

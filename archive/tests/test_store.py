@@ -336,7 +336,7 @@ def test_old_stores(home, folder):
     for name, script in (("old.db", FIRST_STORE), ("old asked.db", FIRST_STORE), ("second.db", SECOND_STORE)):
         with sqlite3.connect(home / name) as connection:
             connection.executescript(script)
-    came = {Path(it["file"]).name: it["state"] for it in lines_of(home, "check", "--store", "old asked.db")}
+    came = {Path(it["file"]).name: it["state"] for it in lines_of(home, "check", "--store", "old asked.db", status=3)}
     count_same("a store of 0.4.0 that is asked", came, {"doc.bin.p7s": None, "doc.tst": None})
     command(home, "index", folder, "--store", old, status=3)
     count_same("a store of 0.4.0 that is indexed", of_first(old), FIRST_STORE_SAYS)

@@ -19,6 +19,9 @@ _PKCS7, _SMIME = rb"\x06\x09\x2a\x86\x48\x86\xf7\x0d\x01\x07", rb"\x06\x0b\x2a\x
 _SEQUENCE, _OBJECT_IDENTIFIER, _BIT_STRING, _INTEGER = 0x30, 0x06, 0x03, 0x02
 _PASSWORD_BASED = (bytes.fromhex("2a864886f70d0105"), bytes.fromhex("2a864886f70d010c01"))  # PKCS #5 and PKCS #12
 _OCSP_BASIC = bytes.fromhex("2b0601050507300101")
+_PKCS8, _PKCS1, _SEC1 = "a private key (PKCS #8)", "a private key (PKCS #1)", "a private key (SEC 1)"
+_ENCRYPTED_KEY, _OCSP = "an encrypted private key (PKCS #8)", "an OCSP response"
+_FIRST_BLOCK = "PEM, and its first block is "
 
 
 class _Element(NamedTuple):
@@ -123,31 +126,31 @@ def _signed(octets: bytes, children: List[_Element]) -> str:
 def _private_key(octets: bytes, children: List[_Element]) -> str:
     """PrivateKeyInfo or OneAsymmetricKey: a version, an algorithm and octets."""
     is_one = _contents(octets, children[0]) in (b"\0", b"\1") and _algorithm(octets, children[1])
-    return "a private key (PKCS #8)" if is_one else ""
+    return _PKCS8 if is_one else ""
 
 
 def _rsa_key(octets: bytes, children: List[_Element]) -> str:
     """RSAPrivateKey: a version, and eight numbers."""
     version = b"\1" if len(children) == 10 else b"\0"
-    return "a private key (PKCS #1)" if _contents(octets, children[0]) == version else ""
+    return _PKCS1 if _contents(octets, children[0]) == version else ""
 
 
 def _ec_key(octets: bytes, children: List[_Element]) -> str:
     """ECPrivateKey: a version, octets, and a curve or a public key."""
     is_curve = {0xA0: b"\x06", 0xA1: b"\x03"}
     is_one = _contents(octets, children[0]) == b"\1" and all(_identifiers(_children(octets, it)) == is_curve[it.identifier] for it in children[2:])
-    return "a private key (SEC 1)" if is_one else ""
+    return _SEC1 if is_one else ""
 
 
 def _encrypted_key(octets: bytes, children: List[_Element]) -> str:
     """EncryptedPrivateKeyInfo: an algorithm with a password, and octets."""
-    return "an encrypted private key (PKCS #8)" if _algorithm(octets, children[0]).startswith(_PASSWORD_BASED) else ""
+    return _ENCRYPTED_KEY if _algorithm(octets, children[0]).startswith(_PASSWORD_BASED) else ""
 
 
 def _ocsp_response(octets: bytes, children: List[_Element]) -> str:
     inside = _children(octets, children[1])
     is_one = _identifiers(inside) == b"\x30" and _identifiers(own := _children(octets, inside[0])) == b"\x06\x04" and _contents(octets, own[0]) == _OCSP_BASIC
-    return "an OCSP response" if is_one else ""
+    return _OCSP if is_one else ""
 
 
 _IN_DER: Sequence[Tuple[Pattern[bytes], Callable[[bytes, List[_Element]], str]]] = (  # by the identifiers of what is in them
@@ -190,6 +193,9 @@ _BEGINNINGS = (
 )
 
 
+_NAMES = frozenset((_PKCS8, _PKCS1, _SEC1, _ENCRYPTED_KEY, _OCSP, *(name for _, name in _SIGNED), *(name for _, name in _BEGINNINGS)))
+
+
 def _in_octets(octets: bytes) -> str:
     return next((name for form, name in _BEGINNINGS if form.match(octets)), "") or _in_der(octets)
 
@@ -200,7 +206,7 @@ def _in_pem(octets: bytes) -> str:
     if block is None:
         return ""
     name = _in_octets(block.body or b"")
-    return f"PEM, and its first block is {name}" if name else f"PEM, and the label of its first block is {block.label.decode('ascii')}"
+    return f"{_FIRST_BLOCK}{name}" if name else f"PEM, and the label of its first block is {block.label.decode('ascii')}"
 
 
 def named(octets: bytes) -> str:
@@ -208,3 +214,9 @@ def named(octets: bytes) -> str:
     if octets[:1] == b"\x30" and (name := _in_octets(octets)):
         return name
     return _in_pem(octets) if len(octets) <= _MOST_OF_PEM and _BEGIN in octets[:_BEGINS_WITHIN] else ""
+
+
+def is_named(note: str) -> bool:
+    """Whether the note of a refused file says that it is something else than a message."""
+    last = note.rpartition("; ")[2]
+    return (last[len(_FIRST_BLOCK) :] if last.startswith(_FIRST_BLOCK) else last) in _NAMES

@@ -55,6 +55,12 @@ def lines_of(home, *words, status=0):
     return [json.loads(line) for line in command(home, *words, "--json", status=status).splitlines()]
 
 
+def load_lines(home, rows, store):
+    """Has a store of this name take rows by `load`."""
+    lines = "".join(f"{json.dumps(it)}\n" for it in [*rows, {"end": len(rows)}])
+    ran(home, "load", "--store", store, input=lines)
+
+
 def asked(store, statement):
     """Returns the rows of a statement about a store, which is named by its URL or is a file of SQLite."""
     import sqlalchemy

@@ -51,7 +51,7 @@ REFUSALS = {  # name, what it means, and what to do
     2: (
         "TooLarge",
         "The message, its DER, the detached content or the data have more than 268,435,456 octets, or a length in the message says so.",
-        "If it is not damaged, use a program of your own, which can give a larger limit.",
+        "If it is not damaged: `cms-canon-archive check FILE DOCUMENT` takes content and data of any length, `cms-canon-archive convert --limit` longer messages, and a program of your own can give a larger limit.",
     ),
     3: (
         "LengthReserved",

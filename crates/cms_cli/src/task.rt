@@ -129,7 +129,7 @@ fn bare_command<'a>(alloc: Global) -> Command<'a>
         .override_usage(texts::USAGE)
         .about(texts::ABOUT)
         .after_help(texts::MORE)
-        .version("0.24.0")
+        .version("0.25.0")
         .subcommand_required(true)
 }
 

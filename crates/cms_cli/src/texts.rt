@@ -97,8 +97,8 @@ number, from 0, of the message that the line is about:
   message 1: write fault after 3
 The octets are counted from the first one of that message. The messages before
 it were written, and nothing of it, except these octets if writing failed.
-Nothing after it was written. If memory runs out, the line is `out of memory`
-alone. If each file of the folder is one message, message 1 is the second file:
+Nothing after it was written. If out of memory, the only line is `out of memory`.
+If each file of the folder is one message, message 1 is the second file:
 `ls folder/*.p7s | sed -n 2p` prints its name. A newline after a message is
 read as the beginning of the next one, which is then refused.
 
@@ -108,8 +108,10 @@ What the reasons mean, and what to do:
              whole message.
   E2         The message, its DER, the detached content or the data have more
              than 268,435,456 octets, or a length in the message says so. If it
-             is not damaged, use a program of your own, which can give a larger
-             limit.
+             is not damaged: `cms-canon-archive check FILE DOCUMENT` takes
+             content and data of any length,
+             `cms-canon-archive convert --limit` longer messages, and a program
+             of your own can give a larger limit.
   E3 to E5   A length is malformed. Get the message again: it is damaged, or
              was badly made.
   E6         An element is longer than what is left of the one around it. Get
@@ -244,7 +246,8 @@ covers anything. `cms-canon help cover` shows how openssl verifies one.
 With --content, all that follows the message is its detached content. It is
 used only if the message has no content of its own. With --data, it is the data
 that were time-stamped. If nothing follows the message, these are empty. Only
-one of the two options can be given.
+one of the two options can be given. More than 268,435,456 octets are refused
+with E2: `cms-canon-archive check FILE DOCUMENT` takes a document of any length.
 
 Of a response, the token is checked, and whether the status goes with it. Of a
 request, only the imprint is checked, with --data.

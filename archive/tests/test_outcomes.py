@@ -1,0 +1,67 @@
+"""Has an index say what came of messages whose rows are made at random, in SQLite and in PostgreSQL: a loop over the rows decides it by the words of the manual."""
+
+import json
+from random import Random
+
+import pytest
+from counting import count_if, count_same, needs
+from making import write_files
+from running import command, lines_of, load_lines, ran
+
+pytestmark = [pytest.mark.archive, needs("click", "tqdm", "sqlalchemy", "cryptography", tools=["openssl"])]
+FITS, DIFFERS, NOT_KNOWN = 0, 1, 3
+MESSAGES = 400
+MOST_LISTED = 1000  # time-stamps of a message that an index has
+STATES = ("fits", "fits", "fits", "does not fit", "fits an earlier revision", "content not found", "no signature", None)
+TIMES = ("fits", "fits", "fits", "does not fit", "no digest to compare", None)
+KINDS = ("signature", "signature", "token", "response", "request", "certificates", None)
+NOTES = ("", "", "", "readers differ on a.txt", "one of the others; readers differ on a.txt", "covers a.txt")
+
+
+def row_at_random(random, like, number):
+    fits = random.random() < 0.5
+    times = [{**like["times"][0], "number": f"0/{it}", "state": "fits" if fits else random.choice(TIMES)} for it in range(random.choice((0, 0, 1, 2, 5)))]
+    return {
+        **like, "path": f"/archive/{number % 7}/{number}.p7s", "digest": f"{number:064x}", "times": times, "kind": random.choice(KINDS),
+        "state": "fits" if fits else random.choice(STATES), "verdict": random.choice((None, None, "right", "wrong", "unknown")), "note": random.choice(NOTES),
+        "findings": random.choice(("", "", "F7 signer 0 message digest differs")),
+    }
+
+
+@pytest.fixture(scope="module")
+def rows(shared_home, make):
+    folder = write_files(shared_home / "one of them", {"a.p7m": make.cms(b"text", "-nodetach"), "b.tst": make.token(b"text"), "b": b"text"})
+    made = [json.loads(it) for it in command(shared_home, "rows", folder).splitlines() if "path" in it]
+    (message,), (token,) = ([it for it in made if it["path"].endswith(name)] for name in ("a.p7m", "b.tst"))
+    like, random = {**message, "times": token["times"]}, Random(78)
+    some = [row_at_random(random, like, number) for number in range(MESSAGES)]
+    well = {**like, "state": "fits", "verdict": "right", "note": "", "findings": "", "kind": "signature", "digest": "0" * 64}
+    many = [{**like["times"][0], "number": f"0/{it}", "state": "fits"} for it in range(MOST_LISTED)]
+    return [*some, {**well, "path": "/archive/many.p7s", "times": many}, {**well, "path": "/archive/fewer.p7s", "times": many[1:]}]
+
+
+def is_signed(row):
+    return row["kind"] not in ("request", "certificates")
+
+
+def outcome_of(row):
+    states = [row["state"], *(it["state"] for it in row["times"])]
+    if "does not fit" in states or row["verdict"] == "wrong":
+        return DIFFERS
+    is_known = set(states) == {"fits"} and row["verdict"] != "unknown" and "readers differ" not in row["note"] and len(row["times"]) < MOST_LISTED
+    return FITS if is_known or not is_signed(row) else NOT_KNOWN
+
+
+def test_outcomes(home, rows, new_store):
+    """What came of each message, which are listed, and the status, of all and below each folder, whatever is listed."""
+    load_lines(home, rows, new_store)
+    wanted = {row["path"]: outcome_of(row) for row in rows}
+    count_if("of each kind", set(wanted.values()) == {FITS, DIFFERS, NOT_KNOWN}, wanted)
+    came = {it["path"]: it["outcome"] for it in lines_of(home, "check", "--all", "--store", new_store, status=DIFFERS)}
+    count_same("each outcome", came, wanted)
+    listed = [it["path"] for it in lines_of(home, "check", "--store", new_store, status=DIFFERS)]
+    count_same("what is listed", listed, sorted(row["path"] for row in rows if is_signed(row) and (wanted[row["path"]] != FITS or row["findings"])))
+    count_same("the first two", [it["path"] for it in lines_of(home, "check", "--limit", 2, "--store", new_store, status=DIFFERS)], listed[:2])
+    for row in rows[::7]:
+        for words in ((), ("--limit", 1), ("--noted",)):
+            ran(home, "check", "--under", row["path"], *words, "--store", new_store, status=wanted[row["path"]])
