@@ -148,7 +148,7 @@ def test_install(tally, tmp_path):
 STRICT = "PYTHONWARNINGS=error,ignore::ResourceWarning"  # of a store that the process closes by ending
 QUESTIONS = (
     ("index example/messages --verify --jobs 2", 0, "", 4),
-    ("check --all", 0, r"^fits\t-\tright\t", 0),
+    ("check --all", 3, r"^fits\t-\tright\t", 0),
     ("signers", 0, r"^CN=\S+\tCN=CA\t.*\t20\S+Z\t20\S+Z\tsha256\tecdsa-sha256\tsecp256r1\t256\t", 0),
     ("times", 0, r"^20..-..-..T.*Z\t", 0),
     ("refusals", 0, r"^E7 UnexpectedElement at \d+\ta certificate \(X\.509\)\t", 0),

@@ -239,6 +239,8 @@ class Store:
     def finish(self) -> None:
         """Makes the index of digests if it is not there, since to add to it for each of millions of rows takes most of the time, and compares what was dropped."""
         with alone(self.engine) as connection:
+            if self.is_sqlite:
+                connection.exec_driver_sql("PRAGMA cache_size=-32768")  # it sorts as much in memory as it keeps
             connection.execute(sa.schema.CreateIndex(BY_DIGEST, if_not_exists=True))
         compare(self.engine)
         if self.is_sqlite:
