@@ -573,10 +573,9 @@ def check_command(
             came.update(queries.outcomes(store, filters))
         is_any = all_of_them or filters.state is not None
         yield from _with_name(queries.noted(store, filters) if noted else _checked(store, folders, is_any, filters, came))
-        if unread := queries.unread(store, filters):
+        for line in queries.unknown(store, filters).lines():
             came.add(Outcome.NOT_KNOWN)
-            what, them = ("files or members are", "them") if unread > 1 else ("file or member is", "it")
-            click.echo(f"{unread:,} {what} refused, damaged, too large or could not be read: `cms-canon-archive refusals` lists {them}", err=True)
+            click.echo(line, err=True)
 
     write(rows(), form, ("state", "findings", "verdict", "note", "file"))
     sys.exit(worst(came if _is_whole() else {*came, Outcome.NOT_KNOWN}, default=Outcome.FITS))

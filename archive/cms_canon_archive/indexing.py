@@ -116,7 +116,8 @@ def _note_missing(connection: sa.engine.Connection, path: str, why: str) -> None
     is_own = ((PARTS.c.path == folder) & (PARTS.c.name == "") & (PARTS.c.chunk == 0)) | of_file
     entry = Entry(path, 0, 0, 0)
     found = unread(entry, why)
-    for part in connection.execute(sa.select(PARTS.c.id).where(is_own, PARTS.c.is_stored)).scalars().all():
+    for part in connection.execute(sa.select(PARTS.c.id).where(is_own)).scalars().all():
+        connection.execute(sa.update(PARTS).where(PARTS.c.id == part).values(is_stored=True))
         for table in OF_PARTS:
             connection.execute(sa.delete(table).where(table.c.part == part, table.c.file == ""))
         rows = Spool(None)

@@ -201,14 +201,36 @@ def outcomes(store: Store, filters: Filters = ALL) -> Set[Outcome]:
     return {Outcome(row["outcome"]) for row in store.asked(filters.where(asked, FILES))}
 
 
-def unread(store: Store, filters: Filters = ALL) -> int:
-    """Counts the files, and what is in files, of whose messages nothing is known: what is damaged, too large or cannot be read, and what is refused and not
-    said to be something else."""
+class Unknown(NamedTuple):
+    """How many files, and how much in files, may have messages of which nothing is known."""
+
+    unread: int
+    """What is damaged, too large or cannot be read, and what is refused and not said to be something else."""
+    differing: int
+    """What else some readers take otherwise."""
+
+    def lines(self) -> Iterator[str]:
+        """Gives a line for each kind."""
+        if self.unread:
+            what, them = ("files or members are", "them") if self.unread > 1 else ("file or member is", "it")
+            yield f"{self.unread:,} {what} refused, damaged, too large or could not be read: `cms-canon-archive refusals` lists {them}"
+        if self.differing:
+            what, them = ("files or members are", "them") if self.differing > 1 else ("file or member is", "it")
+            yield f"{self.differing:,} {what} taken otherwise by some readers: `cms-canon-archive files --all` lists {them}"
+
+
+def unknown(store: Store, filters: Filters = ALL) -> Unknown:
+    """Counts what is no message as far as is known, and may have some."""
     is_folder = (FILES.c.of_file == "") & sa.exists().where(PARTS.c.id == FILES.c.of_part, PARTS.c.name == "").correlate(FILES)
-    is_refused = FILES.c.what == Class.REFUSED.value
-    note = sa.case((is_refused, sa.func.coalesce(FILES.c.note, "")), else_="").label("note")
-    asked = sa.select(note, sa.func.count().label("count")).where(IS_UNREAD | is_refused, sa.not_(is_folder)).group_by(note)
-    return sum(int(row["count"]) for row in store.asked(filters.where(asked, FILES)) if not is_named(str(row["note"])))
+    is_refused, differs = FILES.c.what == Class.REFUSED.value, sa.func.coalesce(FILES.c.note, "").contains(READERS_DIFFER)
+    is_one = IS_UNREAD | is_refused | differs & (FILES.c.what != Class.MESSAGE.value)
+    kinds = ((IS_UNREAD, "unread"), (differs, "differing"), (is_refused, "refused"))
+    kind, note = sa.case(*kinds, else_="").label("kind"), sa.case((is_refused & ~differs, sa.func.coalesce(FILES.c.note, "")), else_="").label("note")
+    asked = sa.select(kind, note, sa.func.count().label("count")).where(is_one, sa.not_(is_folder)).group_by(kind, note)
+    counts: Counter[str] = Counter()
+    for row in store.asked(filters.where(asked, FILES)):
+        counts[str(row["kind"])] += int(row["count"]) * (row["kind"] != "refused" or not is_named(str(row["note"])))
+    return Unknown(counts["unread"] + counts["refused"], counts["differing"])
 
 
 IS_NOTED = (FILES.c.what == Class.MESSAGE.value) & (FILES.c.state == State.FITS.value) & (sa.func.coalesce(FILES.c.note, "") != "")

@@ -1,6 +1,7 @@
 """Has an index say what came of messages whose rows are made at random, in SQLite and in PostgreSQL: a loop over the rows decides it by the words of the manual."""
 
 import json
+import re
 from random import Random
 
 import pytest
@@ -52,7 +53,7 @@ def outcome_of(row):
     return FITS if is_known or not is_signed(row) else NOT_KNOWN
 
 
-def test_outcomes(home, rows, new_store):
+def test_outcomes(archive, home, rows, new_store):
     """What came of each message, which are listed, and the status, of all and below each folder, whatever is listed."""
     load_lines(home, rows, new_store)
     wanted = {row["path"]: outcome_of(row) for row in rows}
@@ -62,6 +63,41 @@ def test_outcomes(home, rows, new_store):
     listed = [it["path"] for it in lines_of(home, "check", "--store", new_store, status=DIFFERS)]
     count_same("what is listed", listed, sorted(row["path"] for row in rows if is_signed(row) and (wanted[row["path"]] != FITS or row["findings"])))
     count_same("the first two", [it["path"] for it in lines_of(home, "check", "--limit", 2, "--store", new_store, status=DIFFERS)], listed[:2])
-    for row in rows[::7]:
+    store = archive.store.Store(new_store)
+    for row in rows:
+        found = archive.queries.outcomes(store, archive.filters.Filters(under=row["path"], limit=1))
+        count_same(f"the outcome of {row['path']}", [int(it) for it in found], [wanted[row["path"]]])
+    for path in ({wanted[it["path"]]: it["path"] for it in rows}).values():
         for words in ((), ("--limit", 1), ("--noted",)):
-            ran(home, "check", "--under", row["path"], *words, "--store", new_store, status=wanted[row["path"]])
+            ran(home, "check", "--under", path, *words, "--store", new_store, status=wanted[path])
+
+
+KNOWN = ("a certificate (X.509)", "covers a.txt; a private key (PKCS #8)", "PEM, and its first block is an encrypted message (CMS EnvelopedData)")
+UNKNOWN = ("", "covers a.txt", "a certificate (X.509), or not", "PEM, and the label of its first block is CMS", "readers differ on a.txt; a certificate (X.509)")
+
+
+def other(like, what, note, number):
+    """Returns a row of what is no message."""
+    of_message = dict.fromkeys(("digest", "kind", "signers", "is_der", "state", "verdict", "time", "content", "content_type"))
+    refusal = {"reason": 7, "name": "UnexpectedElement", "at": 4} if what == "refused" else {}
+    error = note if what in ("damaged", "too large", "unreadable") else None
+    return {**like, **of_message, **refusal, "what": what, "note": note, "error": error, "findings": "", "signed_by": [], "times": [], "path": f"/others/{what}/{number}"}
+
+
+def test_what_is_no_message(archive, home, rows, new_store):
+    """What may have messages of which nothing is known is counted, and is no all-clear; a certificate, a text and a container are none of it."""
+    like, classes = rows[0], ("refused", "damaged", "too large", "unreadable", "container without message", "text")
+    made = [other(like, what, note, number) for what in classes for number, note in enumerate((*KNOWN, *UNKNOWN))]
+    load_lines(home, made, new_store)
+    for what in classes:
+        differing = {"refused": 1, "container without message": 1, "text": 1}.get(what, 0)
+        unread = {"refused": len(UNKNOWN) - 1, "container without message": 0, "text": 0}.get(what, len(KNOWN) + len(UNKNOWN))
+        said = ran(home, "check", "--under", f"/others/{what}", "--store", new_store, status=NOT_KNOWN).stderr
+        found = [re.search(f"^(\\d+) files? or members? (is|are) {it}", said, re.M) for it in ("refused", "taken otherwise")]
+        count_same(what, [int(it[1]) if it else 0 for it in found], [unread, differing])
+    store = archive.store.Store(new_store)
+    for row in made:
+        is_known = row["note"] in KNOWN or "readers differ" not in row["note"] and row["what"] in classes[4:]
+        is_known = is_known and row["what"] not in ("damaged", "too large", "unreadable")
+        found = archive.queries.unknown(store, archive.filters.Filters(under=row["path"]))
+        count_same(f"{row['path']}", sum(found), int(not is_known))
