@@ -2,4 +2,4 @@ use Rattle.cms_fields.proofs.GrammarLaws.{lawful_unread}
 use Rattle.cms_fields.proofs.received.ReceivedWrite.law.Goals as goal
 
 pub returns : goal.returns
-returns g c = lawful_unread _ _ _
+returns g c = lawful_unread _ _ _ _
