@@ -4,6 +4,7 @@ use Rattle.cms_tlv.specs.declared.bound.Bound.{Bound}
 use Rattle.cms_tlv.specs.declared.fault.Reason.TheVariants.{OidMalformed, CountersignTooDeep}
 use Rattle.cms_tlv.specs.Spelling.{members}
 use Rattle.cms_tlv.specs.Reading.{Reader, ◌>>=◌, give, refuse, enter_of, close_of, peek_of, may_be}
+use Rattle.cms_fields.specs.Assembly.{each_in_order}
 use Rattle.cms_fields.specs.Grammar.{Grammar, unread, tagged, opaque_element, last, selected}
 use Rattle.cms_setof.specs.Grammar.{set_of}
 use Rattle.cms_setof.specs.Same.{same_members}
@@ -41,7 +42,8 @@ no_countersignatures_of bd =
 --- `no_countersignatures`: a set of none, within 0 levels [ours]
 abbrev pub no_countersignatures : Grammar (List ⊥)
 no_countersignatures =
-    record (unread (λ m. members m (λ b v. ⊥)) (λ v. Unit {0}) (same_members (λ v w. absurd v))) {
+    record (unread (λ m. members m (λ b v. ⊥)) (λ v. Unit {0}) (same_members (λ v w. absurd v))
+    (each_in_order (λ ms v. ⊥))) {
       first = λ t. false;
       is_contents = true;
       reader = no_countersignatures_of;

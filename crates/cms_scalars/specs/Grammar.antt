@@ -8,10 +8,11 @@ use Rattle.cms_fields.specs.FirstOctets.{is_primitive_octet, are_apart}
 use Rattle.cms_tlv.specs.declared.fault.Reason.TheVariants.{IntegerMalformed, OidMalformed}
 use Rattle.cms_tlv.specs.declared.fault.Reason.TheVariants.{BooleanMalformed, BitsMalformed}
 use Rattle.cms_tlv.specs.declared.fault.Reason.TheVariants.{UnexpectedElement}
+use Rattle.cms_fields.specs.Assembly.{after_header, all_copied, all_made, both_assembled}
 use Rattle.cms_fields.specs.Grammar.{Grammar, unread, primitive, constrained}
 use Rattle.cms_scalars.specs.Bits.{IsNamedBits, named_bits, named_bits_of}
 use Rattle.cms_scalars.specs.Booleans.{truth, boolean, boolean_of, default_false}
-use Rattle.cms_scalars.specs.Booleans.{default_false_then_of}
+use Rattle.cms_scalars.specs.Booleans.{default_false_then_of, unless_false}
 use Rattle.cms_scalars.specs.Octets.{octet_string}
 use Rattle.cms_scalars.specs.Readers.{is_integer, is_object_identifier, is_string_octet}
 use Rattle.cms_scalars.specs.Readers.{octet_string_of}
@@ -48,7 +49,8 @@ is_not_der der = false
 
 --- `named_bits_type`: what `named_bits` spells [X.690, 8.6]
 abbrev pub named_bits_type : Grammar (List ℕ)
-named_bits_type = record (unread named_bits (λ v. Unit {0}) bytes_eq) {
+named_bits_type = record (unread named_bits (λ v. Unit {0}) bytes_eq
+    (after_header 0x03 (all_made (IsNamedBits der)))) {
   first = λ t. t == 0x03;
   is_field = true;
   reader = named_bits_of;
@@ -58,7 +60,7 @@ named_bits_type = record (unread named_bits (λ v. Unit {0}) bytes_eq) {
 
 --- `boolean_type`: what `boolean` spells [X.690, 8.2]
 abbrev pub boolean_type : Grammar Bool
-boolean_type = record (unread boolean (λ v. Unit {0}) beq) {
+boolean_type = record (unread boolean (λ v. Unit {0}) beq (all_made (boolean der))) {
   first = λ t. t == 0x01;
   is_field = true;
   reader = boolean_of;
@@ -68,7 +70,8 @@ boolean_type = record (unread boolean (λ v. Unit {0}) beq) {
 
 --- `octet_string_type id`: what `octet_string id` spells [X.690, 8.7]
 abbrev pub octet_string_type : ℕ → Grammar (List ℕ)
-octet_string_type id = record (unread (octet_string id) AreOctets bytes_eq) {
+octet_string_type id = record (unread (octet_string id) AreOctets bytes_eq
+    (after_header id all_copied)) {
   first = is_string_octet id;
   is_field = is_primitive_octet id;
   reader = octet_string_of id;
@@ -88,4 +91,5 @@ default_false_then h = record {
   read_by = λ m. is_not_der m && h.read_by m;
   has_paths = h.has_paths;
   malformed = says_then h.has_paths boolean_type.malformed h.malformed;
+  assembled = both_assembled (unless_false boolean_type.assembled) h.assembled;
 }

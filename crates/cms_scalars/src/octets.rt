@@ -16,6 +16,7 @@ ghost use Rattle.cms_tlv.specs.RefusalReasons.{SaysWhy};
 ghost use Rattle.cms_tlv.specs.Reading.{refuse};
 ghost use Rattle.cms_tlv.specs.Spelling.{join};
 ghost use Rattle.cms_tlv.specs.declared.fault.Reason.TheVariants.{UnexpectedElement};
+ghost use Rattle.cms_fields.specs.Assembly.{all_copied};
 ghost use Rattle.cms_fields.specs.Received.{spanned_in};
 ghost use Rattle.cms_fields.specs.FirstOctets.{is_primitive_octet};
 ghost use Rattle.cms_fields.specs.Indexed.{left};
@@ -44,7 +45,7 @@ struct Parts(Spans);
 impl Write for Parts {
     ghost Value = { List ℕ };
 
-    ghost grammar = { unread (λ m. octets) AreOctets bytes_eq };
+    ghost grammar = { unread (λ m. octets) AreOctets bytes_eq all_copied };
 
     ghost value = { λ k x. join (spanned_in k x.0) };
 

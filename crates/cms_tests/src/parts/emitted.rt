@@ -2,6 +2,7 @@
 ghost use Rattle.std.specs.Prelude.{ℕ, List, bytes_eq};
 ghost use Rattle.cms_tlv.specs.Headers.{AreOctets};
 ghost use Rattle.cms_tlv.specs.Spelling.{join};
+ghost use Rattle.cms_fields.specs.Assembly.{all_copied};
 ghost use Rattle.cms_fields.specs.Grammar.{tagged, unread};
 ghost use Rattle.cms_fields.specs.Received.{spanned_in};
 ghost use Rattle.cms_scalars.specs.Octets.{octets};
@@ -19,7 +20,7 @@ struct Pieces(Vec<Span>);
 impl Write for Pieces {
     ghost Value = { List ℕ };
 
-    ghost grammar = { unread (λ m. octets) AreOctets bytes_eq };
+    ghost grammar = { unread (λ m. octets) AreOctets bytes_eq all_copied };
 
     ghost value = { λ k x. join (spanned_in k x.0.items) };
 
@@ -37,7 +38,7 @@ struct Joined(Pieces);
 impl Write for Joined {
     ghost Value = { List ℕ };
 
-    ghost grammar = { tagged 4 (unread (λ m. octets) AreOctets bytes_eq) };
+    ghost grammar = { tagged 4 (unread (λ m. octets) AreOctets bytes_eq all_copied) };
 
     ghost value = { λ k x. join (spanned_in k x.0.0.items) };
 
