@@ -57,3 +57,10 @@ module _ {X V : Type 0} (P : X → V → Type 0) where
         subst (λ z. AllZip P z ws) r.images (zipped r.items),
         subst (λ z. IsPermutation z ws) h.2 (IsPermutation-map (λ (p : Pair). p.0.1) h.0 r.items r.permutation),
       )
+
+-- what has equal images by two functions still has, permuted
+module _ {X Y : Type 0} (f g : X → Y) where
+  pub equal_images : (xs ys : List X) → IsPermutation xs ys → map f xs ≡ map g xs → map f ys ≡ map g ys
+  equal_images xs ys m e =
+      IsPermutation-keeps xs (λ l. map f l ≡ map g l) e
+      (λ l i j p q h. swap_mapped f l i j p q ∙ (ap (λ z. swap z i j) h ∙ sym (swap_mapped g l i j p q))) ys m
