@@ -1,7 +1,7 @@
 -- Pieces of an encoding, put before others and taken off.
 use Rattle.std.proofs.Common.{◌≡◌, ℕ, suc, ◌+◌, ◌-◌, ◌<◌, ◌≤◌, Bool, true, false, nat_le, if◌then◌else◌, List, [], ◌∷◌, ◌++◌, length, map, take, drop, get_or, refl, sym, ◌∙◌, ap, subst, arith, append_assoc, add-one, IsPermutation}
 use mathlib.Core.Bool.{◌&&◌}
-use Rattle.std.specs.List.{AllByRecursion}
+use Rattle.std.specs.List.{All, AllByRecursion}
 use Rattle.std.specs.List.Sorted.{IsSortedBy}
 use Rattle.std.specs.Ordering.{nat_cmp, is_lt}
 use Rattle.std.specs.Cmp.Lexicographic.{slice_cmp}
@@ -9,20 +9,23 @@ use Rattle.std.proofs.lemmas.Grind.{flat_map-append}
 use Rattle.std.proofs.lemmas.List.{append-nil, length-append, length-map, map-append, get_or-map, take_more, length-take-le}
 use Rattle.std.proofs.lemmas.Bool.Decides.{nat_tests}
 use Rattle.std.proofs.lemmas.List.Sorted.{IsPermutation-map}
-use Rattle.std.proofs.Math.Seq.{drop-cons}
+use Rattle.std.proofs.Math.ListN.{get_or-append}
+use Rattle.std.proofs.Math.Seq.{drop-cons, get_or-append_seam}
 use Rattle.cms_tlv.specs.declared.span.Span.{Span}
 use Rattle.cms_tlv.specs.Frames.{IsDerFrame}
 use Rattle.cms_tlv.specs.Order.{Ascends}
 use Rattle.cms_tlv.specs.Spans.{octets_in}
 use Rattle.cms_tlv.specs.Spelling.{join}
 use Rattle.cms_tlv.proofs.SpanLaws.{kept_up_to}
-use Rattle.cms_fields.specs.Assembly.{Marked, octets_of, join_marked}
-use Rattle.cms_fields.proofs.AssemblyLaws.{length_octets, octets_joined}
+use Rattle.cms_fields.specs.Assembly.{Marked, marked, copied, made, octets_of, join_marked}
+use Rattle.cms_fields.proofs.AssemblyLaws.{octets_marked, marked_both, length_octets}
 use Rattle.cms_setof.specs.declared.piece.Piece.{Piece}
+use Rattle.cms_setof.specs.declared.piece.Piece.TheVariants as piece
 use Rattle.cms_setof.specs.declared.members.Member.{Member}
-use Rattle.cms_setof.specs.Pieces.{marked_piece, marked_pieces}
+use Rattle.cms_setof.specs.Pieces.{marked_piece, marked_pieces, HasOctets, GoesOn, AreJoined}
 use Rattle.cms_setof.specs.internal.Sorting.{span_octets}
 use Rattle.cms_setof.specs.internal.Tracing.{stacked, TakesOff, marked_member, member_octets, AreMembers}
+use Rattle.cms_setof.proofs.FrontLaws.{no_items}
 use Rattle.cms_setof.proofs.PermutationLaws.{equal_images}
 use Rattle.cms_setof.proofs.SortedRows.{der_still, sorted_ascend}
 
@@ -151,3 +154,48 @@ module _ (k : List ℕ) {whole : List Marked} (first left rest : List Piece) (p 
 pub count_more : (k : List ℕ) (first new : List Piece) (p : Piece) → new ≡ first ++ p ∷ []
     → length (marked_pieces k new) ≡ length (marked_pieces k first) + length (marked_piece k p)
 count_more k first new p g = ap length (ap (marked_pieces k) g ∙ marked_more k first p) ∙ length-append (marked_pieces k first) (marked_piece k p)
+
+-- one more at the end, that does not go on where the last one ends
+pub joined_more : (ps : List Piece) (p q : Piece) → AreJoined (ps ++ p ∷ []) → (GoesOn p q → ⊥) → AreJoined ((ps ++ p ∷ []) ++ q ∷ [])
+joined_more [] p q a n = (n, tt)
+joined_more (r ∷ []) p q a n = (a.0, (n, tt))
+joined_more (r ∷ s ∷ ps) p q a n = (a.0, joined_more (s ∷ ps) p q a.1 n)
+
+-- another one at the end, that goes on where the last one does
+pub joined_changed : (ps : List Piece) (p q : Piece) → AreJoined (ps ++ p ∷ []) → ((r : Piece) → GoesOn r q → GoesOn r p) → AreJoined (ps ++ q ∷ [])
+joined_changed [] p q a f = tt
+joined_changed (r ∷ []) p q a f = (λ g. a.0 (f r g), tt)
+joined_changed (r ∷ s ∷ ps) p q a f = (a.0, joined_changed (s ∷ ps) p q a.1 f)
+
+-- two spans of which one goes on where the other ends
+pub spans_joined : (k : List ℕ) (a b c d : ℕ) → (a < b) × (b ≤ length k) → (c < d) × (d ≤ length k) → b ≡ c
+    → marked copied (octets_in k a d) ≡ marked copied (octets_in k a b) ++ marked copied (octets_in k c d)
+spans_joined k a b c d p q e =
+    let first = octets_in k a b in
+    let all = kept_up_to k a d (omega (arith, p.0, q.0)) q.1 in
+    let parts = kept_up_to k b d (omega (arith, q.0)) q.1 ∙ (ap (λ z. z ++ octets_in k b d) (kept_up_to k a b (omega (arith, p.0)) p.1)
+    ∙ append_assoc (take a k) first (octets_in k b d)) in
+    let whole = (same_parts (take a k) (octets_in k a d) (take a k) (first ++ octets_in k b d) (sym all ∙ parts) refl).1 in
+    ap (marked copied) whole ∙ (marked_both copied first (octets_in k b d) ∙ ap (λ i. marked copied first ++ marked copied (octets_in k i d)) e)
+
+-- what has octets, and what has none
+pub has_octets : (k : List ℕ) (p : Piece) → 0 < length (octets_of (marked_piece k p)) → HasOctets k p
+has_octets k (piece.Copied span) l =
+    let n : length (octets_of (marked copied (octets_in k span.start span.end))) ≡ length (octets_in k span.start span.end) =
+    ap length (octets_marked copied (octets_in k span.start span.end)) in
+    let h = span_lies k span.start span.end (omega arith) in
+    (omega (arith, span_length k span.start span.end h.0 h.1), h.1)
+has_octets k (piece.Made octets) l =
+    let n : length (octets_of (marked made octets.items)) ≡ length octets.items = ap length (octets_marked made octets.items) in
+    omega arith
+
+pub no_octets : (k : List ℕ) (p : Piece) → length (octets_of (marked_piece k p)) ≡ 0 → marked_piece k p ≡ []
+no_octets k p e = no_items (marked_piece k p) (sym (length_octets (marked_piece k p)) ∙ e)
+
+-- all but the last, and the last
+module _ (k : List ℕ) (ps : List Piece) (p : Piece) (h : All (HasOctets k) (ps ++ p ∷ [])) where
+  pub all_but_last : All (HasOctets k) ps
+  all_but_last i d l = subst (HasOctets k) (get_or-append ps (p ∷ []) d i l) (h i d (omega (arith, length-append ps (p ∷ []))))
+
+  pub last_of_all : HasOctets k p
+  last_of_all = subst (HasOctets k) (get_or-append_seam ps p [] p) (h (length ps) p (omega (arith, length-append ps (p ∷ []))))

@@ -1,5 +1,5 @@
 -- An encoding in pieces: octets of the input, and octets that are made.
-use Rattle.std.specs.Prelude.{◌<◌, ◌≤◌, ℕ, List, length}
+use Rattle.std.specs.Prelude.{◌≡◌, ◌<◌, ◌≤◌, ℕ, List, [], ◌∷◌, length, ⊤}
 use Rattle.std.specs.List.{flat_map}
 use Rattle.cms_tlv.specs.Spans.{octets_in}
 use Rattle.cms_fields.specs.Assembly.{Marked, marked, copied, made}
@@ -19,3 +19,16 @@ marked_pieces k ps = flat_map (marked_piece k) ps
 abbrev pub HasOctets : List ℕ → Piece → Type 0
 HasOctets k (piece.Copied span) = (span.start < span.end) × (span.end ≤ length k)
 HasOctets k (piece.Made octets) = 0 < length octets.items
+
+--- `GoesOn p q`: `q` goes on where `p` ends: in the input, or as both are made
+abbrev pub GoesOn : Piece → Piece → Type 0
+GoesOn (piece.Copied p) (piece.Copied q) = p.end ≡ q.start
+GoesOn (piece.Copied p) (piece.Made q) = ⊥
+GoesOn (piece.Made p) (piece.Copied q) = ⊥
+GoesOn (piece.Made p) (piece.Made q) = ⊤
+
+--- `AreJoined ps`: no piece goes on where the one before it ends, so that there are as few as can be
+abbrev pub AreJoined : List Piece → Type 0
+AreJoined [] = ⊤
+AreJoined (p ∷ []) = ⊤
+AreJoined (p ∷ q ∷ ps) = (GoesOn p q → ⊥) × AreJoined (q ∷ ps)

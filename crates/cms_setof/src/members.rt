@@ -14,7 +14,7 @@ ghost use Rattle.cms_setof.specs.internal.Tracing.{stacked, marked_member, membe
 use crate::ascending::frames_ascend;
 use crate::frames::frame_spans;
 use crate::piece::Piece;
-use crate::pieces::{joined, put_before, take_first};
+use crate::stack::{joined, put_before, take_first};
 use cms_tlv::Span;
 use std::alloc::{AllocError, Global};
 

@@ -4,7 +4,7 @@ ghost use Rattle.cms_setof.specs.internal.Tracing.{stacked};
 
 use crate::members::sort_first;
 use crate::piece::Piece;
-use crate::pieces::put_first;
+use crate::stack::put_first;
 use cms_fields::{Sink, Stop};
 use cms_tlv::{BorrowedSpans, Span};
 use std::alloc::Global;

@@ -1,7 +1,7 @@
 use Rattle.std.proofs.Common.{◌≡◌, ◌+◌, ◌++◌, length}
 use Rattle.cms_setof.specs.Pieces.{marked_pieces}
 use Rattle.cms_setof.specs.internal.Tracing.{stacked}
-use Rattle.cms_setof.proofs.pieces.take_first.Given as goal
+use Rattle.cms_setof.proofs.stack.take_first.Given as goal
 
 abbrev pub invariant-loop-left : goal.invariant-loop-left
 invariant-loop-left l = record {

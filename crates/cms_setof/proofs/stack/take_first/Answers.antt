@@ -2,7 +2,7 @@ use Rattle.std.proofs.Common.{◌≡◌, ◌<◌, length, ap, ◌∙◌, arith}
 use Rattle.cms_fields.proofs.AssemblyLaws.{length_octets}
 use Rattle.cms_setof.specs.Pieces.{marked_piece}
 use Rattle.cms_setof.proofs.PieceLaws.{piece_taken, part_taken, count_more}
-use Rattle.cms_setof.proofs.pieces.take_first.Goals as goal
+use Rattle.cms_setof.proofs.stack.take_first.Goals as goal
 
 pub returns-then-len-left : goal.returns-then-len-left
 returns-then-len-left c =

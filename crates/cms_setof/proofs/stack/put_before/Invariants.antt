@@ -1,7 +1,7 @@
 use Rattle.std.proofs.Common.{◌≡◌, ◌++◌, ℕ, List, length}
 use Rattle.cms_setof.specs.Pieces.{marked_pieces}
 use Rattle.cms_setof.specs.internal.Tracing.{stacked}
-use Rattle.cms_setof.proofs.pieces.put_before.Given as goal
+use Rattle.cms_setof.proofs.stack.put_before.Given as goal
 
 abbrev pub invariant-loop-piece : goal.invariant-loop-piece
 invariant-loop-piece l =
