@@ -23,15 +23,15 @@ module _ {X Y : Type 0} (f : X → Y) where
   permuted xs = IsPermutation-keeps (map f xs) (λ l. Permuted xs l)
       (record { items = xs; permutation = IsPermutation-refl xs; images = refl })
       (λ l i j p q h.
-          let long : length l ≡ length h.items = sym (ap length h.images) ∙ length-map h.items f in
-          let a : i < length h.items = subst (λ n. i < n) long p in
-          let b : j < length h.items = subst (λ n. j < n) long q in
-          record {
-            items = swap h.items i j;
-            permutation =
-                IsPermutation-trans xs h.items (swap h.items i j) h.permutation (IsPermutation-swap h.items (swap h.items i j) i j a b refl);
-            images = swap_mapped h.items i j a b ∙ ap (λ z. swap z i j) h.images;
-          })
+      let long : length l ≡ length h.items = sym (ap length h.images) ∙ length-map h.items f in
+      let a : i < length h.items = subst (λ n. i < n) long p in
+      let b : j < length h.items = subst (λ n. j < n) long q in
+      record {
+        items = swap h.items i j;
+        permutation =
+            IsPermutation-trans xs h.items (swap h.items i j) h.permutation (IsPermutation-swap h.items (swap h.items i j) i j a b refl);
+        images = swap_mapped h.items i j a b ∙ ap (λ z. swap z i j) h.images;
+      })
 
 -- values that go with items, one by one, are permuted with them
 module _ {X V : Type 0} (P : X → V → Type 0) where

@@ -15,7 +15,6 @@ use Rattle.cms_tlv.specs.declared.span.Span.{Span}
 use Rattle.cms_tlv.specs.Frames.{IsDerFrame}
 use Rattle.cms_tlv.specs.Order.{Ascends}
 use Rattle.cms_tlv.specs.Spans.{octets_in}
-use Rattle.cms_tlv.specs.Spelling.{join}
 use Rattle.cms_tlv.proofs.SpanLaws.{kept_up_to}
 use Rattle.cms_fields.specs.Assembly.{Marked, marked, copied, made, octets_of, join_marked}
 use Rattle.cms_fields.proofs.AssemblyLaws.{octets_marked, marked_both, length_octets}
@@ -84,8 +83,8 @@ module _ (k buffer : List ℕ) (frames : List (List Marked)) where
             ∙ (ap (λ z. z ++ marked_member k m ∷ []) cut.pieces ∙ (ap (λ z. take i frames ++ z ∷ []) parts.0 ∙ sym (take_more frames i [] within)));
         octets = map-append (member_octets buffer) members (m ∷ [])
             ∙ (ap (λ z. z ++ member_octets buffer m ∷ []) cut.octets
-                ∙ (ap (λ z. take i (map octets_of frames) ++ z ∷ []) (ap (span_octets buffer) at ∙ (octets ∙ sym (get_or-map octets_of frames i [] [] within)))
-                    ∙ sym (take_more (map octets_of frames) i [] (omega (arith, length-map frames octets_of)))));
+            ∙ (ap (λ z. take i (map octets_of frames) ++ z ∷ []) (ap (span_octets buffer) at ∙ (octets ∙ sym (get_or-map octets_of frames i [] [] within)))
+            ∙ sym (take_more (map octets_of frames) i [] (omega (arith, length-map frames octets_of)))));
         rest = parts.1 ∙ ap (λ j. join_marked (drop j frames)) (sym (add-one i));
       }
 

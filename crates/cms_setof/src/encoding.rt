@@ -97,11 +97,7 @@ pub fn gather<T: Write>(
 /// Of which octets the encoding of a value is made up: those that are copied from the input, by spans in
 /// `kept`, and those that are made, which are headers, the contents of a BOOLEAN, and named bits. No two
 /// neighbours could be one piece. An error means out of memory.
-pub fn pieces<T: Write>(
-    value: &T,
-    alloc: Global,
-    kept: &[u8],
-) -> Result<Vec<Piece>, AllocError>
+pub fn pieces<T: Write>(value: &T, alloc: Global, kept: &[u8]) -> Result<Vec<Piece>, AllocError>
     requires { T.grammar.is_value (T.value kept.now value.now) }
     ensures written { IfOk result (λ v. IsWritten (T.grammar.spelled der) T.grammar.same
         (T.value kept.now value.now) (octets_of (marked_pieces kept.now v.items))) }

@@ -1,4 +1,3 @@
-use Rattle.std.proofs.Common.{sym}
 use Rattle.cms_setof.proofs.PieceLaws.{spans_joined}
 use Rattle.cms_setof.proofs.joining.join.Goals as goal
 

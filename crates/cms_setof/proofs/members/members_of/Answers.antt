@@ -1,4 +1,4 @@
-use Rattle.std.proofs.Common.{◌≡◌, ◌+◌, ◌∷◌, ◌++◌, [], length, map, get_or, refl, sym, ◌∙◌, ap, subst}
+use Rattle.std.proofs.Common.{◌≡◌, ◌+◌, length, map, get_or, refl, sym, ◌∙◌, ap, subst}
 use Rattle.cms_tlv.specs.declared.span.Span.{Span}
 use Rattle.cms_fields.specs.Assembly.{octets_of}
 use Rattle.cms_setof.specs.declared.members.Member.{Member}

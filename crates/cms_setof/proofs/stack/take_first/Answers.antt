@@ -1,4 +1,4 @@
-use Rattle.std.proofs.Common.{◌≡◌, ◌<◌, length, ap, ◌∙◌, arith}
+use Rattle.std.proofs.Common.{◌<◌, length, ap, ◌∙◌, arith}
 use Rattle.cms_fields.proofs.AssemblyLaws.{length_octets}
 use Rattle.cms_setof.specs.Pieces.{marked_piece}
 use Rattle.cms_setof.proofs.PieceLaws.{piece_taken, part_taken, count_more}

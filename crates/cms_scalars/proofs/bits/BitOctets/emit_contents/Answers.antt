@@ -1,4 +1,4 @@
-use Rattle.std.proofs.Common.{◌≡◌, ◌∷◌, [], ◌++◌, subst, sym, ap}
+use Rattle.std.proofs.Common.{◌∷◌, [], ◌++◌, subst, sym, ap}
 use Rattle.std.specs.Int.{w8, trailing_zeros}
 use Rattle.std.proofs.lemmas.Result.{on_ok_weaker}
 use Rattle.cms_fields.specs.Assembly.{marked, made}
