@@ -11,7 +11,7 @@ use Rattle.cms_tlv.specs.Frames.{of_short_length}
 use Rattle.cms_tlv.specs.Spelling.{der, Spelling, element, ◌⨟◌, optional}
 use Rattle.cms_tlv.specs.Writing.{IsDerHeader}
 use Rattle.cms_tlv.proofs.HeaderLaws.{short_length_one}
-use Rattle.cms_fields.specs.Assembly.{Marked, Assembly, IsAssembled, copied, made, marked, octets_of, all_copied, after_header, both_assembled, if_present}
+use Rattle.cms_fields.specs.Assembly.{Marked, Assembly, IsAssembled, copied, made, marked, unmarked, all_copied, after_header, both_assembled, if_present}
 use Rattle.cms_fields.specs.Canonical.{IsCanonical}
 use Rattle.cms_fields.specs.Received.{as_received}
 use Rattle.cms_fields.specs.Sinks.{Taking, TakingLaws, Emits, MayStop}
@@ -28,7 +28,7 @@ module _ {V W : Type 0} {R : Spelling V} {T : Spelling W} {e : V → V → Bool}
   alike_emits assembled h = record {
     octets = h.octets;
     put = h.put;
-    written = (alike (octets_of h.octets)).0 h.written;
+    written = (alike (unmarked h.octets)).0 h.written;
     assembled = assembled h.octets h.assembled;
     each = λ o x. h.each o ((alike o).1 x);
   }
@@ -104,15 +104,15 @@ module _ {V : Type 0} {R : Spelling V} {e : V → V → Bool} {v : V} (id : ℕ)
 
   module _ {S : Type 0} {t : Taking S} (laws : TakingLaws t) {A : Assembly V} {k : List ℕ} {a b : S} (p : Emits t R A e v k a b)
       (n : ℕ) (i : n ≡ length p.octets) where
-    header_octets : (h l : List ℕ) → h ≡ id ∷ l → octets_of (marked made h ++ p.octets) ≡ id ∷ (l ++ octets_of p.octets)
-    header_octets h l e = octets_both (marked made h) p.octets ∙ ap (λ z. z ++ octets_of p.octets) (octets_marked made h ∙ e)
+    header_octets : (h l : List ℕ) → h ≡ id ∷ l → unmarked (marked made h ++ p.octets) ≡ id ∷ (l ++ unmarked p.octets)
+    header_octets h l e = octets_both (marked made h) p.octets ∙ ap (λ z. z ++ unmarked p.octets) (octets_marked made h ∙ e)
 
     pub element_emits : {c : S} → (h : List ℕ) × IsDerHeader id n h × t.puts k b (marked made h) c
         → Emits t (element der id R) (after_header id A) e v k a c
     element_emits {c = c} q =
         let l = q.1.0 in
         let s : IsShortLength l (length p.octets) = subst (IsShortLength l) i q.1.1 in
-        let r : IsShortLength l (length (octets_of p.octets)) = subst (IsShortLength l) (sym (length_octets p.octets)) s in
+        let r : IsShortLength l (length (unmarked p.octets)) = subst (IsShortLength l) (sym (length_octets p.octets)) s in
         let m : length q.0 ≡ suc (length l) = ap length q.1.2 in record {
           octets = marked made q.0 ++ p.octets;
           put = laws.both k (marked made q.0) p.octets a b c p.put q.2;

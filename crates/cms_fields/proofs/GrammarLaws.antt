@@ -13,7 +13,6 @@ use Rattle.cms_tlv.proofs.Elements.{scalar_reads}
 use Rattle.cms_tlv.proofs.Judged.{where_reads}
 use Rattle.cms_tlv.specs.RefusalReasons.{IsFree}
 use Rattle.cms_tlv.proofs.Why.{scalar_explained, opaque_explained, constrained_explained}
-use Rattle.cms_fields.specs.Assembly.{Assembly}
 use Rattle.cms_fields.specs.FirstOctets.{is_constructed}
 use Rattle.cms_fields.specs.Readers.{constrained_of, last_of, last_optional_of}
 use Rattle.cms_fields.specs.Received.{IsOpaqueAmong}
@@ -46,8 +45,8 @@ read_but_by_der g b c ber n = b
 read_but_by_der g b c minimal n = c
 read_but_by_der g b c der n = absurd (n refl)
 
-pub lawful_unread : {V : Type 0} (R : Rules → Spelling V) (P : V → Type 0) (s : V → V → Bool) (A : Assembly V) → IsLawful (unread R P s A)
-lawful_unread R P s A = record { field = λ e. no refl e; contents = λ e. no refl e }
+pub lawful_unread : {V : Type 0} (g : Grammar V) → g.is_field ≡ false → g.is_contents ≡ false → IsLawful g
+lawful_unread g n m = record { field = λ e. no n e; contents = λ e. no m e }
 
 pub lawful_tagged : {V : Type 0} (id : ℕ) (g : Grammar V) → IsLawful g → IsLawful (tagged id g)
 lawful_tagged id g h = field_lawful (tagged id g) refl (λ s.

@@ -1,5 +1,6 @@
 -- Where the octets of an encoding come from: each is copied from the input, or made.
-use Rattle.std.specs.Prelude.{◌≡◌, ℕ, List, [], ◌++◌, length, map, Bool, true, Option, None, Some, ◌⊎◌}
+use Rattle.std.specs.Prelude.{◌≡◌, ℕ, List, [], ◌++◌, length, map, Bool, true}
+use Rattle.std.specs.Prelude.{Option, None, Some, ◌⊎◌}
 use mathlib.Core.Logic.{inl, inr}
 use Rattle.std.specs.List.{AllZip, flat_map}
 use Rattle.cms_tlv.specs.Order.{Ascends}
@@ -18,9 +19,9 @@ Marked = ℕ × Origin
 abbrev pub marked : Origin → List ℕ → List Marked
 marked origin octets = map (λ x. (x, origin)) octets
 
---- `octets_of ms`: the octets of `ms`, without their origins
-abbrev pub octets_of : List Marked → List ℕ
-octets_of ms = map (λ m. m.0) ms
+--- `unmarked ms`: the octets of `ms`, without their origins
+abbrev pub unmarked : List Marked → List ℕ
+unmarked ms = map (λ m. m.0) ms
 
 --- `join_marked mss`: the lists `mss` one after another
 abbrev pub join_marked : List (List Marked) → List Marked
@@ -70,4 +71,4 @@ either_assembled A B ms (inr w) = B ms w
 abbrev pub each_in_order : {V : Type 0} → Assembly V → Assembly (List V)
 each_in_order A ms vs =
     (mss : List (List Marked)) × (ms ≡ join_marked mss) × AllZip A mss vs
-    × Ascends (map octets_of mss)
+    × Ascends (map unmarked mss)

@@ -52,7 +52,7 @@ pub record Grammar (V : Type 0) : Type 1 where
   --- `malformed`: for which reason octets are refused, from the first one of the field or contents
   ---   to the last one taken: as one of its parts says
   pub malformed : Reason → List ℕ → Type 0
-  --- `assembled`: how its DER is assembled of octets that are copied from the input, and of made ones
+  --- `assembled`: how its DER is assembled of octets that are copied from the input, and others
   pub assembled : Assembly V
 
 --- `IsReadBy g m`: by the rules `m`, `g` is read if and only if it is spelled
@@ -88,11 +88,11 @@ pub record IsLawful {V : Type 0} (g : Grammar V) : Type 0 where
 
 -- Fields.
 
---- `unread R P s A`: what `R` spells; values are the same by `s`; its DER is assembled by `A`
---- | `P` matters only to rows that are left out; what is made of it gives a reader [`Received`]
-abbrev pub unread : {V : Type 0} → (Rules → Spelling V) → (V → Type 0) → (V → V → Bool)
-    → Assembly V → Grammar V
-unread R P s A = record {
+--- `unread R P s`: what `R` spells; values are the same by `s`
+--- | `P` matters only to rows that are left out; what is made of it gives a reader, and says how
+---   DER is assembled [`Received`]
+abbrev pub unread : {V : Type 0} → (Rules → Spelling V) → (V → Type 0) → (V → V → Bool) → Grammar V
+unread R P s = record {
   spelled = R;
   is_value = P;
   same = s;
@@ -103,13 +103,15 @@ unread R P s A = record {
   read_by = λ m. false;
   has_paths = true;
   malformed = says_nothing;
-  assembled = A;
+  assembled = λ ms v. ⊥;
 }
 
 --- `octets_with P`: octets with `P`, which spell themselves, and are copied; likewise without a
 ---   reader [`Received`]
 abbrev pub octets_with : (List ℕ → Type 0) → Grammar (List ℕ)
-octets_with P = unread (λ m. as_received P) P bytes_eq all_copied
+octets_with P = record (unread (λ m. as_received P) P bytes_eq) {
+  assembled = all_copied;
+}
 
 --- `tagged id g`: an element with the identifier octet `id` that holds the contents `g` [`Tagged`]
 abbrev pub tagged : {V : Type 0} → ℕ → Grammar V → Grammar V

@@ -3,7 +3,7 @@ use Rattle.std.specs.Prelude.{◌≡◌, ◌≤◌, ℕ, ◌+◌, List, [], ◌+
 use Rattle.std.specs.List.Sorted.{IsPermutation}
 use Rattle.cms_tlv.specs.Order.{Ascends}
 use Rattle.cms_tlv.specs.Spelling.{Spelling}
-use Rattle.cms_fields.specs.Assembly.{Marked, octets_of, join_marked, Assembly, IsAssembled}
+use Rattle.cms_fields.specs.Assembly.{Marked, unmarked, join_marked, Assembly, IsAssembled}
 use Rattle.cms_fields.specs.Writing.{IsWritten}
 
 --- `Taking S`: how a sink takes octets
@@ -33,7 +33,7 @@ pub record Emits {V S : Type 0} (t : Taking S) (R : Spelling V) (A : Assembly V)
     (is_same : V → V → Bool) (v : V) (k : List ℕ) (a b : S) : Type 0 where
   pub octets : List Marked
   pub put : t.puts k a octets b
-  pub written : IsWritten R is_same v (octets_of octets)
+  pub written : IsWritten R is_same v (unmarked octets)
   pub assembled : IsAssembled A is_same v octets
   pub each : (o : List ℕ) → IsWritten R is_same v o → length o ≡ length octets
 
@@ -46,5 +46,5 @@ pub record Sorts {S : Type 0} (t : Taking S) (k : List ℕ) (a : S) (frames : Li
     (b : S) : Type 0 where
   pub sorted : List (List Marked)
   pub permutation : IsPermutation frames sorted
-  pub ascends : Ascends (map octets_of sorted)
+  pub ascends : Ascends (map unmarked sorted)
   pub put : t.puts k a (join_marked sorted) b

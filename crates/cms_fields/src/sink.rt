@@ -31,7 +31,7 @@ pub trait Sink {
     ghost use Rattle.cms_tlv.specs.Frames.{IsDerFrame};
     ghost use Rattle.cms_tlv.specs.Spans.{octets_in, borrowed_spans};
     ghost use Rattle.cms_tlv.specs.Spelling.{join};
-    ghost use Rattle.cms_fields.specs.Assembly.{Marked, marked, copied, made, octets_of, join_marked};
+    ghost use Rattle.cms_fields.specs.Assembly.{Marked, marked, copied, made, unmarked, join_marked};
     ghost use Rattle.cms_fields.specs.Received.{spanned_in};
     ghost use Rattle.cms_fields.specs.Sinks.{Taking, TakingLaws, Sorts};
 
@@ -65,7 +65,7 @@ pub trait Sink {
     /// Sorts the elements that it took after its first `from` octets, in ascending order (X.690, 11.6).
     fn sort(&mut self, kept: &[u8], from: u64) -> Result<(), Stop>
         ensures ok { OnOk result ((s : Self) (frames : List (List Marked)) → taking.count s ≡ from
-            → AllByRecursion IsDerFrame (map octets_of frames)
+            → AllByRecursion IsDerFrame (map unmarked frames)
             → taking.puts kept.now s (join_marked frames) self.old
             → Sorts taking kept.now s frames self.new) }
         ensures stops { OnErr result (taking.stops (taking.count self.old)) };

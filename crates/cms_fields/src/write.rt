@@ -31,8 +31,8 @@ pub trait Write {
     /// Gives its encoding to a sink, from the last octet to the first.
     fn emit<S: Sink>(&self, kept: &[u8], sink: &mut S) -> Result<(), Stop>
         requires { grammar.is_value (value kept.now self.now) }
-        ensures ok { OnOk result (Emits S.taking (grammar.spelled der) grammar.assembled grammar.same
-            (value kept.now self.now) kept.now sink.old sink.new) }
+        ensures ok { OnOk result (Emits S.taking (grammar.spelled der) grammar.assembled
+            grammar.same (value kept.now self.now) kept.now sink.old sink.new) }
         ensures stops { OnErr result (MayStop S.taking (grammar.spelled der) grammar.same
             (value kept.now self.now) (S.taking.count sink.old)) };
 

@@ -42,10 +42,10 @@ no_countersignatures_of bd =
 --- `no_countersignatures`: a set of none, within 0 levels [ours]
 abbrev pub no_countersignatures : Grammar (List ⊥)
 no_countersignatures =
-    record (unread (λ m. members m (λ b v. ⊥)) (λ v. Unit {0}) (same_members (λ v w. absurd v))
-    (each_in_order (λ ms v. ⊥))) {
+    record (unread (λ m. members m (λ b v. ⊥)) (λ v. Unit {0}) (same_members (λ v w. absurd v))) {
       first = λ t. false;
       is_contents = true;
       reader = no_countersignatures_of;
       read_by = λ m. true;
+      assembled = each_in_order (λ ms v. ⊥);
     }

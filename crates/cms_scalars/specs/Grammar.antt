@@ -49,34 +49,35 @@ is_not_der der = false
 
 --- `named_bits_type`: what `named_bits` spells [X.690, 8.6]
 abbrev pub named_bits_type : Grammar (List ℕ)
-named_bits_type = record (unread named_bits (λ v. Unit {0}) bytes_eq
-    (after_header 0x03 (all_made (IsNamedBits der)))) {
-      first = λ t. t == 0x03;
-      is_field = true;
-      reader = named_bits_of;
-      read_by = is_not_der;
-      malformed = says_malformed 0x03 (λ c. (v : List ℕ) × IsNamedBits ber c v) BitsMalformed;
-    }
+named_bits_type = record (unread named_bits (λ v. Unit {0}) bytes_eq) {
+  first = λ t. t == 0x03;
+  is_field = true;
+  reader = named_bits_of;
+  read_by = is_not_der;
+  malformed = says_malformed 0x03 (λ c. (v : List ℕ) × IsNamedBits ber c v) BitsMalformed;
+  assembled = after_header 0x03 (all_made (IsNamedBits der));
+}
 
 --- `boolean_type`: what `boolean` spells [X.690, 8.2]
 abbrev pub boolean_type : Grammar Bool
-boolean_type = record (unread boolean (λ v. Unit {0}) beq (all_made (boolean der))) {
+boolean_type = record (unread boolean (λ v. Unit {0}) beq) {
   first = λ t. t == 0x01;
   is_field = true;
   reader = boolean_of;
   read_by = is_not_der;
   malformed = says_malformed 0x01 (λ c. (v : Bool) × truth ber c v) BooleanMalformed;
+  assembled = all_made (boolean der);
 }
 
 --- `octet_string_type id`: what `octet_string id` spells [X.690, 8.7]
 abbrev pub octet_string_type : ℕ → Grammar (List ℕ)
-octet_string_type id = record (unread (octet_string id) AreOctets bytes_eq
-    (after_header id all_copied)) {
-      first = is_string_octet id;
-      is_field = is_primitive_octet id;
-      reader = octet_string_of id;
-      read_by = is_not_der;
-    }
+octet_string_type id = record (unread (octet_string id) AreOctets bytes_eq) {
+  first = is_string_octet id;
+  is_field = is_primitive_octet id;
+  reader = octet_string_of id;
+  read_by = is_not_der;
+  assembled = after_header id all_copied;
+}
 
 --- `default_false_then h`: what `default_false` spells, then the fields `h` [X.690, 11.5]
 abbrev pub default_false_then : {W : Type 0} → Grammar W → Grammar (Bool × W)

@@ -51,7 +51,9 @@ struct BitContents(Span);
 impl Write for BitContents {
     ghost Value = { List ℕ };
 
-    ghost grammar = { unread IsNamedBits (λ v. Unit {0}) bytes_eq (all_made (IsNamedBits der)) };
+    ghost grammar = { record (unread IsNamedBits (λ v. Unit {0}) bytes_eq) {
+        assembled = all_made (IsNamedBits der);
+    } };
 
     ghost value = { λ k x. bits_of_contents (octets_in k x.0.start x.0.end) };
 

@@ -38,8 +38,9 @@ struct DefaultFalse(bool);
 impl Write for DefaultFalse {
     ghost Value = { Bool };
 
-    ghost grammar = { unread default_false (λ v. Unit {0}) beq
-        (unless_false boolean_type.assembled) };
+    ghost grammar = { record (unread default_false (λ v. Unit {0}) beq) {
+        assembled = unless_false boolean_type.assembled;
+    } };
 
     ghost value = { λ k x. x.0 };
 

@@ -16,7 +16,7 @@ use Rattle.cms_tlv.specs.Frames.{IsDerFrame}
 use Rattle.cms_tlv.specs.Order.{Ascends}
 use Rattle.cms_tlv.specs.Spans.{octets_in}
 use Rattle.cms_tlv.proofs.SpanLaws.{kept_up_to}
-use Rattle.cms_fields.specs.Assembly.{Marked, marked, copied, made, octets_of, join_marked}
+use Rattle.cms_fields.specs.Assembly.{Marked, marked, copied, made, unmarked, join_marked}
 use Rattle.cms_fields.proofs.AssemblyLaws.{octets_marked, marked_both, length_octets}
 use Rattle.cms_setof.specs.declared.piece.Piece.{Piece}
 use Rattle.cms_setof.specs.declared.piece.Piece.TheVariants as piece
@@ -63,18 +63,18 @@ module _ (k buffer : List ℕ) (frames : List (List Marked)) where
   --- `Cut`: the members have the pieces of the first i frames, and those of the others are left
   pub record Cut (i : ℕ) (left : List Piece) (members : List Member) : Type 0 where
     pub pieces : map (marked_member k) members ≡ take i frames
-    pub octets : map (member_octets buffer) members ≡ take i (map octets_of frames)
+    pub octets : map (member_octets buffer) members ≡ take i (map unmarked frames)
     pub rest : stacked k left ≡ join_marked (drop i frames)
 
-  pub cut_more : (spans : List Span) → map (span_octets buffer) spans ≡ map octets_of frames → (i : ℕ) (d : Span) → i < length spans
+  pub cut_more : (spans : List Span) → map (span_octets buffer) spans ≡ map unmarked frames → (i : ℕ) (d : Span) → i < length spans
       → {left new : List Piece} {members : List Member} → Cut i left members → (m : Member) → m.span ≡ get_or spans i d
       → TakesOff k (length (span_octets buffer (get_or spans i d))) left m.pieces.items new → Cut (i + 1) new (members ++ m ∷ [])
   cut_more spans same i d l {left = left} {new = new} {members = members} cut m at t =
-      let long : length spans ≡ length frames = sym (length-map spans (span_octets buffer)) ∙ (ap length same ∙ length-map frames octets_of) in
+      let long : length spans ≡ length frames = sym (length-map spans (span_octets buffer)) ∙ (ap length same ∙ length-map frames unmarked) in
       let within : i < length frames = omega arith in
       let frame = get_or frames i [] in
-      let octets : span_octets buffer (get_or spans i d) ≡ octets_of frame =
-      sym (get_or-map (span_octets buffer) spans i d [] l) ∙ (ap (λ z. get_or z i []) same ∙ get_or-map octets_of frames i [] [] within) in
+      let octets : span_octets buffer (get_or spans i d) ≡ unmarked frame =
+      sym (get_or-map (span_octets buffer) spans i d [] l) ∙ (ap (λ z. get_or z i []) same ∙ get_or-map unmarked frames i [] [] within) in
       let whole : stacked k left ≡ frame ++ join_marked (drop (suc i) frames) = cut.rest ∙ ap join_marked (drop-cons frames i [] within) in
       let n : length (marked_member k m) ≡ length frame = t.counted ∙ (ap length octets ∙ length_octets frame) in
       let parts = same_parts (marked_member k m) (stacked k new) frame (join_marked (drop (suc i) frames)) (sym t.parts ∙ whole) n in
@@ -83,25 +83,25 @@ module _ (k buffer : List ℕ) (frames : List (List Marked)) where
             ∙ (ap (λ z. z ++ marked_member k m ∷ []) cut.pieces ∙ (ap (λ z. take i frames ++ z ∷ []) parts.0 ∙ sym (take_more frames i [] within)));
         octets = map-append (member_octets buffer) members (m ∷ [])
             ∙ (ap (λ z. z ++ member_octets buffer m ∷ []) cut.octets
-            ∙ (ap (λ z. take i (map octets_of frames) ++ z ∷ []) (ap (span_octets buffer) at ∙ (octets ∙ sym (get_or-map octets_of frames i [] [] within)))
-            ∙ sym (take_more (map octets_of frames) i [] (omega (arith, length-map frames octets_of)))));
+            ∙ (ap (λ z. take i (map unmarked frames) ++ z ∷ []) (ap (span_octets buffer) at ∙ (octets ∙ sym (get_or-map unmarked frames i [] [] within)))
+            ∙ sym (take_more (map unmarked frames) i [] (omega (arith, length-map frames unmarked)))));
         rest = parts.1 ∙ ap (λ j. join_marked (drop j frames)) (sym (add-one i));
       }
 
   -- members that are sorted by their octets
-  pub members_sorted : (members sorted : List Member) → AllByRecursion IsDerFrame (map octets_of frames) → AreMembers k buffer frames members
+  pub members_sorted : (members sorted : List Member) → AllByRecursion IsDerFrame (map unmarked frames) → AreMembers k buffer frames members
       → IsPermutation members sorted
       → IsSortedBy (λ a b. is_lt (slice_cmp nat_cmp (member_octets buffer a) (member_octets buffer b))) sorted
-      → IsPermutation frames (map (marked_member k) sorted) × Ascends (map octets_of (map (marked_member k) sorted))
+      → IsPermutation frames (map (marked_member k) sorted) × Ascends (map unmarked (map (marked_member k) sorted))
   members_sorted members sorted d are m up =
       let f = member_octets buffer in
-      let g = λ (x : Member). octets_of (marked_member k x) in
+      let g = λ (x : Member). unmarked (marked_member k x) in
       let same : map f sorted ≡ map g sorted =
-      equal_images f g members sorted m (are.octets ∙ (sym (ap (map octets_of) are.pieces) ∙ images_twice (marked_member k) octets_of members)) in
+      equal_images f g members sorted m (are.octets ∙ (sym (ap (map unmarked) are.pieces) ∙ images_twice (marked_member k) unmarked members)) in
       let der : AllByRecursion IsDerFrame (map f sorted) =
-      der_still (map octets_of frames) (map f sorted) (subst (λ z. IsPermutation z (map f sorted)) are.octets (IsPermutation-map f members sorted m)) d in (
+      der_still (map unmarked frames) (map f sorted) (subst (λ z. IsPermutation z (map f sorted)) are.octets (IsPermutation-map f members sorted m)) d in (
         subst (λ z. IsPermutation z (map (marked_member k) sorted)) are.pieces (IsPermutation-map (marked_member k) members sorted m),
-        subst Ascends (same ∙ sym (images_twice (marked_member k) octets_of sorted)) (sorted_ascend f sorted der up),
+        subst Ascends (same ∙ sym (images_twice (marked_member k) unmarked sorted)) (sorted_ascend f sorted der up),
       )
 
 -- a span that names octets lies in what is kept
@@ -178,17 +178,17 @@ spans_joined k a b c d p q e =
     ap (marked copied) whole ∙ (marked_both copied first (octets_in k b d) ∙ ap (λ i. marked copied first ++ marked copied (octets_in k i d)) e)
 
 -- what has octets, and what has none
-pub has_octets : (k : List ℕ) (p : Piece) → 0 < length (octets_of (marked_piece k p)) → HasOctets k p
+pub has_octets : (k : List ℕ) (p : Piece) → 0 < length (unmarked (marked_piece k p)) → HasOctets k p
 has_octets k (piece.Copied span) l =
-    let n : length (octets_of (marked copied (octets_in k span.start span.end))) ≡ length (octets_in k span.start span.end) =
+    let n : length (unmarked (marked copied (octets_in k span.start span.end))) ≡ length (octets_in k span.start span.end) =
     ap length (octets_marked copied (octets_in k span.start span.end)) in
     let h = span_lies k span.start span.end (omega arith) in
     (omega (arith, span_length k span.start span.end h.0 h.1), h.1)
 has_octets k (piece.Made octets) l =
-    let n : length (octets_of (marked made octets.items)) ≡ length octets.items = ap length (octets_marked made octets.items) in
+    let n : length (unmarked (marked made octets.items)) ≡ length octets.items = ap length (octets_marked made octets.items) in
     omega arith
 
-pub no_octets : (k : List ℕ) (p : Piece) → length (octets_of (marked_piece k p)) ≡ 0 → marked_piece k p ≡ []
+pub no_octets : (k : List ℕ) (p : Piece) → length (unmarked (marked_piece k p)) ≡ 0 → marked_piece k p ≡ []
 no_octets k p e = no_items (marked_piece k p) (sym (length_octets (marked_piece k p)) ∙ e)
 
 -- all but the last, and the last

@@ -27,7 +27,7 @@ GoesOn (piece.Copied p) (piece.Made q) = ⊥
 GoesOn (piece.Made p) (piece.Copied q) = ⊥
 GoesOn (piece.Made p) (piece.Made q) = ⊤
 
---- `AreJoined ps`: no piece goes on where the one before it ends, so that there are as few as can be
+--- `AreJoined ps`: no piece goes on where the one before it ends
 abbrev pub AreJoined : List Piece → Type 0
 AreJoined [] = ⊤
 AreJoined (p ∷ []) = ⊤

@@ -1,6 +1,6 @@
 //! A sink that compares.
 ghost use Rattle.std.specs.Prelude.{◌≡◌, ◌+◌, ◌++◌, length, take};
-ghost use Rattle.cms_fields.specs.Assembly.{octets_of};
+ghost use Rattle.cms_fields.specs.Assembly.{unmarked};
 
 use crate::ascending::frames_ascend;
 use cms_fields::{Sink, Stop};
@@ -35,7 +35,7 @@ impl Comparing {
 
 impl Sink for Comparing {
     ghost taking = { record {
-      puts = λ k s q t. (take s.at k ≡ take t.at k ++ octets_of q)
+      puts = λ k s q t. (take s.at k ≡ take t.at k ++ unmarked q)
           × (t.count ≡ s.count + length q);
       count = λ s. s.count;
       stops = λ n. Unit {0};

@@ -2,7 +2,7 @@
 ghost use Rattle.std.specs.Prelude.{◌≡◌, ◌++◌, length, true, OnOk, OnErr, IfOk};
 ghost use Rattle.cms_tlv.specs.Spelling.{element, der};
 ghost use Rattle.std.specs.List.{All};
-ghost use Rattle.cms_fields.specs.Assembly.{octets_of, IsAssembled};
+ghost use Rattle.cms_fields.specs.Assembly.{unmarked, IsAssembled};
 ghost use Rattle.cms_fields.specs.Writing.{IsWritten, Writes, HasLength};
 ghost use Rattle.cms_setof.specs.Gathering.{octets_of_parts};
 ghost use Rattle.cms_setof.specs.Pieces.{marked_pieces, HasOctets, AreJoined};
@@ -100,7 +100,7 @@ pub fn gather<T: Write>(
 pub fn pieces<T: Write>(value: &T, alloc: Global, kept: &[u8]) -> Result<Vec<Piece>, AllocError>
     requires { T.grammar.is_value (T.value kept.now value.now) }
     ensures written { IfOk result (λ v. IsWritten (T.grammar.spelled der) T.grammar.same
-        (T.value kept.now value.now) (octets_of (marked_pieces kept.now v.items))) }
+        (T.value kept.now value.now) (unmarked (marked_pieces kept.now v.items))) }
     ensures assembled { IfOk result (λ v. IsAssembled T.grammar.assembled T.grammar.same
         (T.value kept.now value.now) (marked_pieces kept.now v.items)) }
     ensures have { IfOk result (λ v. All (HasOctets kept.now) v.items) }

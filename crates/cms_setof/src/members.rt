@@ -7,7 +7,7 @@ ghost use Rattle.std.specs.Cmp.Lexicographic.{slice_cmp};
 ghost use Rattle.cms_tlv.specs.Frames.{IsDerFrame};
 ghost use Rattle.cms_tlv.specs.Order.{Ascends};
 ghost use Rattle.cms_tlv.specs.Spelling.{join};
-ghost use Rattle.cms_fields.specs.Assembly.{Marked, octets_of, join_marked};
+ghost use Rattle.cms_fields.specs.Assembly.{Marked, unmarked, join_marked};
 ghost use Rattle.cms_setof.specs.Pieces.{marked_pieces};
 ghost use Rattle.cms_setof.specs.internal.Tracing.{stacked, marked_member, member_octets, AreMembers};
 
@@ -34,9 +34,9 @@ fn members_of(
     alloc: Global,
 ) -> Result<Vec<Member>, AllocError>
     ensures { IfOk result (λ v. (frames : List (List Marked))
-        → AllByRecursion IsDerFrame (map octets_of frames)
+        → AllByRecursion IsDerFrame (map unmarked frames)
         → marked_pieces kept.now pieces.items ≡ join_marked frames
-        → octets.now ≡ join (map octets_of frames)
+        → octets.now ≡ join (map unmarked frames)
         → AreMembers kept.now octets.now frames v.items) }
 {
     let spans = frame_spans(octets, 0, alloc)?;
@@ -84,10 +84,10 @@ pub(crate) fn sort_first(
     alloc: Global,
 ) -> Result<(), AllocError>
     ensures { OnOk result ((frames : List (List Marked)) (rest : List Marked)
-        → AllByRecursion IsDerFrame (map octets_of frames) → n ≡ length (join_marked frames)
+        → AllByRecursion IsDerFrame (map unmarked frames) → n ≡ length (join_marked frames)
         → stacked kept.now pieces.old.items ≡ join_marked frames ++ rest
         → (sorted : List (List Marked)) × IsPermutation frames sorted
-        × Ascends (map octets_of sorted)
+        × Ascends (map unmarked sorted)
         × (stacked kept.now pieces.new.items ≡ join_marked sorted ++ rest)) }
 {
     let first = take_first(pieces, n, kept, alloc)?;

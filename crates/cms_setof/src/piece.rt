@@ -1,6 +1,6 @@
 //! A piece of an encoding.
 ghost use Rattle.std.specs.Prelude.{◌≡◌, ◌++◌, ◌<◌, ℕ, List, length, IfOk};
-ghost use Rattle.cms_fields.specs.Assembly.{marked, made, octets_of};
+ghost use Rattle.cms_fields.specs.Assembly.{marked, made, unmarked};
 ghost use Rattle.cms_setof.specs.Pieces.{marked_piece};
 
 use cms_tlv::Span;
@@ -27,7 +27,7 @@ impl Piece {
 
     /// Its octets; `kept` is what its span names octets of.
     pub fn octets<'a>(&'a self, kept: &'a [u8]) -> &'a [u8]
-        ensures { result.now ≡ octets_of (marked_piece kept.now self.now) }
+        ensures { result.now ≡ unmarked (marked_piece kept.now self.now) }
     {
         match self {
             Piece::Copied(span) => span.octets(kept),

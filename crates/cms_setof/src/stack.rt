@@ -1,6 +1,6 @@
 //! Pieces of an encoding that grows at its front: the last one in the list comes first.
 ghost use Rattle.std.specs.Prelude.{◌≡◌, ◌++◌, ℕ, List, OnOk, IfOk};
-ghost use Rattle.cms_fields.specs.Assembly.{octets_of};
+ghost use Rattle.cms_fields.specs.Assembly.{unmarked};
 ghost use Rattle.cms_setof.specs.Pieces.{marked_piece, marked_pieces};
 ghost use Rattle.cms_setof.specs.internal.Tracing.{stacked, TakesOff};
 
@@ -60,7 +60,7 @@ pub(crate) fn put_before(first: Vec<Piece>, pieces: &mut Vec<Piece>) -> Result<(
 
 /// The octets of pieces, one after another. An error means out of memory.
 pub(crate) fn joined(pieces: &[Piece], kept: &[u8], alloc: Global) -> Result<Vec<u8>, AllocError>
-    ensures { IfOk result (λ v. v.items ≡ octets_of (marked_pieces kept.now pieces.now)) }
+    ensures { IfOk result (λ v. v.items ≡ unmarked (marked_pieces kept.now pieces.now)) }
 {
     let mut octets = Vec::new(alloc);
     for piece in pieces {

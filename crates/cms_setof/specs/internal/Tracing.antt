@@ -1,6 +1,6 @@
 -- Pieces of an encoding that grows at its front.
 use Rattle.std.specs.Prelude.{◌≡◌, ℕ, List, [], ◌∷◌, ◌++◌, length, map}
-use Rattle.cms_fields.specs.Assembly.{Marked, octets_of}
+use Rattle.cms_fields.specs.Assembly.{Marked, unmarked}
 use Rattle.cms_setof.specs.declared.piece.Piece.{Piece}
 use Rattle.cms_setof.specs.declared.members.Member.{Member}
 use Rattle.cms_setof.specs.internal.Sorting.{span_octets}
@@ -28,4 +28,4 @@ member_octets buffer m = span_octets buffer m.span
 pub record AreMembers (k buffer : List ℕ) (frames : List (List Marked)) (members : List Member)
     : Type 0 where
   pub pieces : map (marked_member k) members ≡ frames
-  pub octets : map (member_octets buffer) members ≡ map octets_of frames
+  pub octets : map (member_octets buffer) members ≡ map unmarked frames

@@ -1,6 +1,6 @@
 use Rattle.std.proofs.Common.{◌≡◌, ◌+◌, length, map, get_or, refl, sym, ◌∙◌, ap, subst}
 use Rattle.cms_tlv.specs.declared.span.Span.{Span}
-use Rattle.cms_fields.specs.Assembly.{octets_of}
+use Rattle.cms_fields.specs.Assembly.{unmarked}
 use Rattle.cms_setof.specs.declared.members.Member.{Member}
 use Rattle.cms_setof.specs.internal.Sorting.{span_octets}
 use Rattle.cms_setof.specs.internal.Tracing.{TakesOff}
@@ -15,8 +15,8 @@ loop-span-preserved c frames d e f =
     let i = c.loop-span.span-index in
     let none : Span = record { start = 0; end = 0 } in
     let m : Member = record { span = get_or spans i none; pieces = c.in_ok-pieces.pieces } in
-    let same : map (span_octets octets) spans ≡ map octets_of frames =
-    ap (map (span_octets octets)) c.deref-span-items.ensures.value ∙ c.in_ok-spans.ensures.frames (map octets_of frames) d f in
+    let same : map (span_octets octets) spans ≡ map unmarked frames =
+    ap (map (span_octets octets)) c.deref-span-items.ensures.value ∙ c.in_ok-spans.ensures.frames (map unmarked frames) d f in
     let taken = subst (λ n. TakesOff k n c.loop-span.left.items c.in_ok-pieces.pieces.items c.take_first.new.pieces.items)
     (ap length c.octets.ensures) c.in_ok-pieces.ensures in
     let more = cut_more k octets frames spans same i none c.loop-span-test.true (c.loop-span.invariant frames d e f) m refl taken in

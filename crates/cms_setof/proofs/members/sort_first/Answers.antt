@@ -6,7 +6,7 @@ use Rattle.std.proofs.lemmas.List.{with_items_is}
 use Rattle.std.proofs.lemmas.List.Sorted.{IsPermutation-refl}
 use Rattle.std.proofs.lemmas.Result.{on_ok_weaker}
 use Rattle.cms_tlv.specs.Spelling.{join}
-use Rattle.cms_fields.specs.Assembly.{octets_of, join_marked}
+use Rattle.cms_fields.specs.Assembly.{unmarked, join_marked}
 use Rattle.cms_fields.proofs.AssemblyLaws.{octets_joined}
 use Rattle.cms_setof.specs.Pieces.{marked_pieces}
 use Rattle.cms_setof.specs.internal.Tracing.{stacked, marked_member, member_octets}
@@ -17,11 +17,11 @@ pub returns-then-frames_ascend : goal.returns-then-frames_ascend
 returns-then-frames_ascend c = on_ok_weaker c.put_before.result (λ h frames rest d n e.
     let k = c.args.kept.now in
     let t = frames_taken c.in_ok-first.ensures frames rest n e in
-    let octets : c.deref-2.result.now ≡ join (map octets_of frames) = c.deref-2.ensures.value ∙ (c.in_ok-octets.ensures
-    ∙ (ap (λ z. octets_of (marked_pieces k z)) c.deref.ensures.value ∙ (ap octets_of t.0 ∙ octets_joined frames))) in (
+    let octets : c.deref-2.result.now ≡ join (map unmarked frames) = c.deref-2.ensures.value ∙ (c.in_ok-octets.ensures
+    ∙ (ap (λ z. unmarked (marked_pieces k z)) c.deref.ensures.value ∙ (ap unmarked t.0 ∙ octets_joined frames))) in (
       frames,
       IsPermutation-refl frames,
-      (c.frames_ascend.ensures (map octets_of frames) d octets).0 c.if-frames_ascend.true,
+      (c.frames_ascend.ensures (map unmarked frames) d octets).0 c.if-frames_ascend.true,
       h k ∙ (ap (λ z. z ++ stacked k c.take_first.new.pieces.items) t.0 ∙ ap (λ z. join_marked frames ++ z) t.1),
     )) c.put_before.ensures
 
@@ -30,8 +30,8 @@ returns c = on_ok_weaker c.put_members.result (λ h frames rest d n e.
     let k = c.args.kept.now in
     let t = frames_taken c.in_ok-first.ensures frames rest n e in
     let buffer = c.deref-3.result.now in
-    let octets : buffer ≡ join (map octets_of frames) = c.deref-3.ensures.value ∙ (c.in_ok-octets.ensures
-    ∙ (ap (λ z. octets_of (marked_pieces k z)) c.deref.ensures.value ∙ (ap octets_of t.0 ∙ octets_joined frames))) in
+    let octets : buffer ≡ join (map unmarked frames) = c.deref-3.ensures.value ∙ (c.in_ok-octets.ensures
+    ∙ (ap (λ z. unmarked (marked_pieces k z)) c.deref.ensures.value ∙ (ap unmarked t.0 ∙ octets_joined frames))) in
     let are = c.in_ok-members.ensures frames d t.0 octets in
     let sorted = c.sort_members.new.members in
     let one : c.deref-4.result.now ≡ buffer = c.deref-4.ensures.value ∙ sym c.deref-3.ensures.value in

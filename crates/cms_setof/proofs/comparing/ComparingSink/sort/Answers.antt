@@ -2,7 +2,7 @@ use Rattle.std.proofs.Common.{◌≡◌, ◌≤◌, ◌+◌, ◌-◌, ◌++◌, 
 use Rattle.std.proofs.lemmas.List.{take-append-drop, length-take-le}
 use Rattle.std.proofs.lemmas.List.Sorted.{IsPermutation-refl}
 use Rattle.std.proofs.Math.Seq.{drop-append_seam}
-use Rattle.cms_fields.specs.Assembly.{octets_of, join_marked}
+use Rattle.cms_fields.specs.Assembly.{unmarked, join_marked}
 use Rattle.cms_fields.proofs.AssemblyLaws.{octets_joined, length_octets}
 use Rattle.cms_setof.proofs.MergeLaws.{begins_with}
 use Rattle.cms_setof.proofs.comparing.ComparingSink.sort.Goals as goal
@@ -20,8 +20,8 @@ pub returns-then-frames_ascend-clause-ok : goal.returns-then-frames_ascend-claus
 returns-then-frames_ascend-clause-ok c = λ s frames e f p.
     let k = c.args.kept.now in
     let at = c.args.self.now.at in
-    let bs = map octets_of frames in
-    let octets = octets_of (join_marked frames) in
+    let bs = map unmarked frames in
+    let octets = unmarked (join_marked frames) in
     let m = length_octets (join_marked frames) in
     let n : c.saturating_sub-n.result ≡ length octets = omega (arith, c.saturating_sub-n.ensures, e, p.1, m) in
     let cut = between k octets s.at at c.saturating_sub-n.result (omega (arith, c.if-self-kept.false)) p.0 n in
