@@ -69,7 +69,7 @@ fn add_octets(piece: Piece, kept: &[u8], pieces: &mut Vec<Piece>) -> Result<(), 
 }
 
 /// Adds a piece at the end as `add_octets` does, or nothing if it has no octets.
-fn add(piece: Piece, kept: &[u8], pieces: &mut Vec<Piece>) -> Result<(), AllocError>
+pub(crate) fn add(piece: Piece, kept: &[u8], pieces: &mut Vec<Piece>) -> Result<(), AllocError>
     requires have { All (HasOctets kept.now) pieces.old.items }
     requires joined { AreJoined pieces.old.items }
     ensures octets { OnOk result (marked_pieces kept.now pieces.new.items
