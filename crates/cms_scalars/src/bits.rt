@@ -52,7 +52,7 @@ impl Write for BitContents {
     ghost Value = { List ℕ };
 
     ghost grammar = { record (unread IsNamedBits (λ v. Unit {0}) bytes_eq) {
-        assembled = all_made (IsNamedBits der);
+      assembled = all_made (IsNamedBits der);
     } };
 
     ghost value = { λ k x. bits_of_contents (octets_in k x.0.start x.0.end) };

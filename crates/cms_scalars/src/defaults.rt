@@ -39,7 +39,7 @@ impl Write for DefaultFalse {
     ghost Value = { Bool };
 
     ghost grammar = { record (unread default_false (λ v. Unit {0}) beq) {
-        assembled = unless_false boolean_type.assembled;
+      assembled = unless_false boolean_type.assembled;
     } };
 
     ghost value = { λ k x. x.0 };

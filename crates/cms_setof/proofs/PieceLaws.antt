@@ -16,15 +16,13 @@ use Rattle.cms_tlv.specs.Frames.{IsDerFrame}
 use Rattle.cms_tlv.specs.Order.{Ascends}
 use Rattle.cms_tlv.specs.Spans.{octets_in}
 use Rattle.cms_tlv.proofs.SpanLaws.{kept_up_to}
-use Rattle.cms_fields.specs.Assembly.{Marked, marked, copied, made, unmarked, join_marked}
-use Rattle.cms_fields.proofs.AssemblyLaws.{octets_marked, marked_both, length_octets}
+use Rattle.cms_fields.specs.Assembly.{Marked, marked, copied, unmarked, join_marked}
+use Rattle.cms_fields.proofs.AssemblyLaws.{marked_both, length_octets}
 use Rattle.cms_setof.specs.declared.piece.Piece.{Piece}
-use Rattle.cms_setof.specs.declared.piece.Piece.TheVariants as piece
 use Rattle.cms_setof.specs.declared.members.Member.{Member}
 use Rattle.cms_setof.specs.Pieces.{marked_piece, marked_pieces, HasOctets, GoesOn, AreJoined}
 use Rattle.cms_setof.specs.internal.Sorting.{span_octets}
 use Rattle.cms_setof.specs.internal.Tracing.{stacked, TakesOff, marked_member, member_octets, AreMembers}
-use Rattle.cms_setof.proofs.FrontLaws.{no_items}
 use Rattle.cms_setof.proofs.PermutationLaws.{equal_images}
 use Rattle.cms_setof.proofs.SortedRows.{der_still, sorted_ascend}
 
@@ -176,20 +174,6 @@ spans_joined k a b c d p q e =
     ∙ append_assoc (take a k) first (octets_in k b d)) in
     let whole = (same_parts (take a k) (octets_in k a d) (take a k) (first ++ octets_in k b d) (sym all ∙ parts) refl).1 in
     ap (marked copied) whole ∙ (marked_both copied first (octets_in k b d) ∙ ap (λ i. marked copied first ++ marked copied (octets_in k i d)) e)
-
--- what has octets, and what has none
-pub has_octets : (k : List ℕ) (p : Piece) → 0 < length (unmarked (marked_piece k p)) → HasOctets k p
-has_octets k (piece.Copied span) l =
-    let n : length (unmarked (marked copied (octets_in k span.start span.end))) ≡ length (octets_in k span.start span.end) =
-    ap length (octets_marked copied (octets_in k span.start span.end)) in
-    let h = span_lies k span.start span.end (omega arith) in
-    (omega (arith, span_length k span.start span.end h.0 h.1), h.1)
-has_octets k (piece.Made octets) l =
-    let n : length (unmarked (marked made octets.items)) ≡ length octets.items = ap length (octets_marked made octets.items) in
-    omega arith
-
-pub no_octets : (k : List ℕ) (p : Piece) → length (unmarked (marked_piece k p)) ≡ 0 → marked_piece k p ≡ []
-no_octets k p e = no_items (marked_piece k p) (sym (length_octets (marked_piece k p)) ∙ e)
 
 -- all but the last, and the last
 module _ (k : List ℕ) (ps : List Piece) (p : Piece) (h : All (HasOctets k) (ps ++ p ∷ [])) where

@@ -1,5 +1,4 @@
 //! Which octets of DER are copied from the input, and which are made.
-
 ghost use Rattle.std.specs.Prelude.{◌≡◌, true};
 
 use crate::asserts::assert_same;
@@ -17,6 +16,15 @@ use std::test::Fail;
 type Shown = &'static [(usize, usize)];
 
 const MADE: usize = usize::MAX;
+
+/// A set of OCTET STRINGs.
+type Texts = Tagged<0x31, SetOf<TextSpan>>;
+
+/// A set of opaque elements.
+type Elements = Tagged<0x31, SetOf<Opaque>>;
+
+/// A BOOLEAN and an OCTET STRING.
+type Fields = Tagged<0x30, Then<Boolean, Last<OctetsSpan<0x04>>>>;
 
 /// What these pieces show.
 fn shown(alloc: Global, pieces: &[Piece]) -> Result<Vec<(usize, usize)>, AllocError> {
@@ -48,7 +56,6 @@ fn assert_assembled<T: Field>(
 /// A header is made, and contents are copied. Members go where their octets do.
 #[test]
 fn headers_made(rt: HostRuntime) -> Result<(), Fail> {
-    type Texts = Tagged<0x31, SetOf<TextSpan>>;
     assert_assembled::<Texts>(&rt, "3100", &[(MADE, 2)])?;
     assert_assembled::<Texts>(
         &rt,
@@ -60,15 +67,13 @@ fn headers_made(rt: HostRuntime) -> Result<(), Fail> {
 /// Opaque members that follow each other in the input are one piece.
 #[test]
 fn opaque_members_copied(rt: HostRuntime) -> Result<(), Fail> {
-    type Elements = Tagged<0x31, SetOf<Opaque>>;
     assert_assembled::<Elements>(&rt, "3106040161040162", &[(MADE, 2), (2, 8)])?;
     assert_assembled::<Elements>(&rt, "3106040162040161", &[(MADE, 2), (5, 8), (2, 5)])
 }
 
-/// A string in segments has a header that is made, and each segment is copied. BOOLEAN is made.
+/// A string in segments has a header that is made, and each segment is copied. A BOOLEAN is made.
 #[test]
 fn strings_copied(rt: HostRuntime) -> Result<(), Fail> {
-    type Fields = Tagged<0x30, Then<Boolean, Last<OctetsSpan<0x04>>>>;
     assert_assembled::<Fields>(
         &rt,
         "300b0101012406040161040162",
