@@ -7,6 +7,7 @@ use Rattle.cms_fields.specs.Assembly.{Marked, copied}
 abbrev pub IsCopiedToo : Marked → Marked → Type 0
 IsCopiedToo m n = (m.0 ≡ n.0) × (m.1 ≡ copied → n.1 ≡ copied)
 
---- `CopiesMore ms ns`: the octets are the same, and each that is copied in `ms` is copied in `ns` too
+--- `CopiesMore ms ns`: the octets are the same, and each that is copied in `ms` is copied in `ns`
+---   too
 abbrev pub CopiesMore : List Marked → List Marked → Type 0
 CopiesMore ms ns = AllZip IsCopiedToo ms ns
