@@ -11,10 +11,12 @@ use Rattle.cms_tlv.specs.Reading.{Reader, taking}
 use Rattle.cms_tlv.specs.Refines.{RefinesWithValue, Failed}
 use Rattle.cms_tlv.specs.Law.{Reads, IsField}
 use Rattle.cms_tlv.proofs.OctetsTaken.{taking_reads}
+use Rattle.cms_fields.specs.Assembly.{marked, copied}
 use Rattle.cms_fields.specs.Canonical.{IsCanonical, IsByDer, IsDerFramed}
 use Rattle.cms_fields.specs.Readers.{already_der_of}
 use Rattle.cms_fields.specs.Sinks.{Taking, Emits, MayStop}
 use Rattle.cms_fields.specs.Writing.{IsWritten}
+use Rattle.cms_fields.proofs.AssemblyLaws.{octets_marked, length_marked}
 
 -- what the inner bound reads
 module _ {W : Type 0} (f : Bound → Reader W) (bd inner : Bound) (is : inner ≡ record bd { strict = true }) where
@@ -73,8 +75,15 @@ module _ {V : Type 0} (R : Spelling V) where
       only : (o : List ℕ) → IsWritten (with_octets R) alike v o → v.0 ≡ o
       only o w = (bytes_eq-Decides v.0 o).0 (strict_by_der.canonical.alike v.0 o v w.value (refl, r) w.spells ∙ w.same)
 
-      pub strict_emits : {S : Type 0} {t : Taking S} {k : List ℕ} {a b : S} → t.puts k a v.0 b → Emits t (with_octets R) alike v k a b
-      strict_emits p = record { octets = v.0; put = p; written = itself; each = λ o w. ap length (sym (only o w)) }
+      pub strict_emits : {S : Type 0} {t : Taking S} {k : List ℕ} {a b : S} → t.puts k a (marked copied v.0) b
+          → Emits t (with_octets R) (λ ms w. ms ≡ marked copied w.0) alike v k a b
+      strict_emits p = record {
+        octets = marked copied v.0;
+        put = p;
+        written = subst (IsWritten (with_octets R) alike v) (sym (octets_marked copied v.0)) itself;
+        assembled = record { value = v; assembles = refl; same = equivalence.refl v.1 };
+        each = λ o w. ap length (sym (only o w)) ∙ sym (length_marked copied v.0);
+      }
 
       pub strict_stops : {S : Type 0} (t : Taking S) (n : ℕ) → t.stops (n + length v.0) → MayStop t (with_octets R) alike v n
       strict_stops t n l o w = subst (λ z. t.stops (n + length z)) (only o w) l

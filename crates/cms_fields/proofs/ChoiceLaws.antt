@@ -21,6 +21,7 @@ use Rattle.cms_tlv.proofs.ReadingLaws.{room_less}
 use Rattle.cms_tlv.proofs.Inverse.{okay, bad, ok_value, ok_place, branch, bind_ok, bind_err, bound_again}
 use Rattle.cms_tlv.proofs.Ends.{peek_same, peek_some, peek_cut, field_octet}
 use Rattle.cms_tlv.proofs.Fields.{shown}
+use Rattle.cms_fields.specs.Assembly.{Marked, Assembly, IsAssembled, either_assembled}
 use Rattle.cms_fields.specs.FirstOctets.{are_apart}
 use Rattle.cms_fields.specs.Canonical.{IsByDer, IsDerFramed}
 use Rattle.cms_fields.specs.Writing.{IsWritten}
@@ -204,6 +205,14 @@ module _ {V W : Type 0} (R : Spelling V) (S : Spelling W) (s : V → V → Bool)
       go : (x : V ⊎ W) → either R S o x → same_choice s t (inr w) x ≡ true → IsWritten S t w o
       go (inl u) r e = absurd cc
       go (inr u) r e = record { value = u; spells = r; same = e }
+
+-- what it is assembled of
+module _ {V W : Type 0} {A : Assembly V} {B : Assembly W} {s : V → V → Bool} {t : W → W → Bool} {m : List Marked} where
+  pub first_assembled : {v : V} → IsAssembled A s v m → IsAssembled (either_assembled A B) (same_choice s t) (inl v) m
+  first_assembled h = record { value = inl h.value; assembles = h.assembles; same = h.same }
+
+  pub second_assembled : {w : W} → IsAssembled B t w m → IsAssembled (either_assembled A B) (same_choice s t) (inr w) m
+  second_assembled h = record { value = inr h.value; assembles = h.assembles; same = h.same }
 
 -- The exits of its reader, after the look at the next octet.
 module _ {V W : Type 0} (p : ℕ → Bool) (f : Bound → Reader V) (g : Bound → Reader W) (bd : Bound) {a b : State} {o : Option ℕ}

@@ -45,8 +45,8 @@ read_but_by_der g b c ber n = b
 read_but_by_der g b c minimal n = c
 read_but_by_der g b c der n = absurd (n refl)
 
-pub lawful_unread : {V : Type 0} (R : Rules → Spelling V) (P : V → Type 0) (s : V → V → Bool) → IsLawful (unread R P s)
-lawful_unread R P s = record { field = λ e. no refl e; contents = λ e. no refl e }
+pub lawful_unread : {V : Type 0} (g : Grammar V) → g.is_field ≡ false → g.is_contents ≡ false → IsLawful g
+lawful_unread g n m = record { field = λ e. no n e; contents = λ e. no m e }
 
 pub lawful_tagged : {V : Type 0} (id : ℕ) (g : Grammar V) → IsLawful g → IsLawful (tagged id g)
 lawful_tagged id g h = field_lawful (tagged id g) refl (λ s.

@@ -1,6 +1,7 @@
 -- Laws that crates above cite.
 pub mod CanonicalLaws
 pub mod WriteLaws
+pub mod AssemblyLaws
 pub mod EmitLaws
 pub mod DerLaws
 pub mod ReaderLaws

@@ -1,5 +1,5 @@
--- One description of a field or of contents: how a value is spelled and read, and which values are
--- the same.
+-- One description of a field or of contents: how a value is spelled and read, which values are the
+-- same, and of what its DER is assembled.
 use Rattle.std.specs.Prelude.{◌≡◌, ◌&&◌, ◌||◌, ◌==◌, ◌⊎◌, ℕ, List, Bool, true, false, Option}
 use Rattle.std.specs.Prelude.{IfSome, bytes_eq}
 use mathlib.Core.Logic.{inl, inr}
@@ -14,6 +14,8 @@ use Rattle.cms_tlv.specs.Reading.{Reader, refuse, scalar_of, opaque_of}
 use Rattle.cms_tlv.specs.RefusalReasons.{Explained, either_says, says_element, says_inside}
 use Rattle.cms_tlv.specs.RefusalReasons.{says_malformed, says_nothing, says_then}
 use Rattle.cms_tlv.specs.Law.{IsField, IsContents, Reads, ReadsTo}
+use Rattle.cms_fields.specs.Assembly.{Assembly, all_copied, after_header, both_assembled}
+use Rattle.cms_fields.specs.Assembly.{if_present, either_assembled, marked, copied}
 use Rattle.cms_fields.specs.Canonical.{IsByDer, IsDerFramed}
 use Rattle.cms_fields.specs.Choices.{choice_of, same_choice}
 use Rattle.cms_fields.specs.FirstOctets.{is_field_octet, is_constructed, is_primitive_octet}
@@ -50,6 +52,8 @@ pub record Grammar (V : Type 0) : Type 1 where
   --- `malformed`: for which reason octets are refused, from the first one of the field or contents
   ---   to the last one taken: as one of its parts says
   pub malformed : Reason → List ℕ → Type 0
+  --- `assembled`: how its DER is assembled of octets that are copied from the input, and others
+  pub assembled : Assembly V
 
 --- `IsReadBy g m`: by the rules `m`, `g` is read if and only if it is spelled
 abbrev pub IsReadBy : {V : Type 0} → Grammar V → Rules → Type 0
@@ -85,7 +89,8 @@ pub record IsLawful {V : Type 0} (g : Grammar V) : Type 0 where
 -- Fields.
 
 --- `unread R P s`: what `R` spells; values are the same by `s`
---- | `P` matters only to rows that are left out; what is made of it gives a reader [`Received`]
+--- | `P` matters only to rows that are left out; what is made of it gives a reader, and says how
+---   DER is assembled [`Received`]
 abbrev pub unread : {V : Type 0} → (Rules → Spelling V) → (V → Type 0) → (V → V → Bool) → Grammar V
 unread R P s = record {
   spelled = R;
@@ -98,11 +103,15 @@ unread R P s = record {
   read_by = λ m. false;
   has_paths = true;
   malformed = says_nothing;
+  assembled = λ ms v. ⊥;
 }
 
---- `octets_with P`: octets with `P`, which spell themselves; likewise without a reader [`Received`]
+--- `octets_with P`: octets with `P`, which spell themselves, and are copied; likewise without a
+---   reader [`Received`]
 abbrev pub octets_with : (List ℕ → Type 0) → Grammar (List ℕ)
-octets_with P = unread (λ m. as_received P) P bytes_eq
+octets_with P = record (unread (λ m. as_received P) P bytes_eq) {
+  assembled = all_copied;
+}
 
 --- `tagged id g`: an element with the identifier octet `id` that holds the contents `g` [`Tagged`]
 abbrev pub tagged : {V : Type 0} → ℕ → Grammar V → Grammar V
@@ -117,6 +126,7 @@ tagged id g = record {
   read_by = g.read_by;
   has_paths = is_constructed id && g.has_paths;
   malformed = says_inside id g.malformed;
+  assembled = after_header id g.assembled;
 }
 
 --- `primitive id P test reason`: a primitive element with contents `P`; a reader refuses others for
@@ -179,6 +189,7 @@ already_der g = record {
   read_by = λ m. g.read_by der;
   has_paths = g.has_paths;
   malformed = g.malformed;
+  assembled = λ ms v. ms ≡ marked copied v.0;
 }
 
 abbrev pub is_either : {V W : Type 0} → (V → Type 0) → (W → Type 0) → V ⊎ W → Type 0
@@ -198,6 +209,7 @@ choice g h = record {
   read_by = λ m. g.read_by m && h.read_by m;
   has_paths = g.has_paths && h.has_paths;
   malformed = either_says g.malformed h.malformed;
+  assembled = either_assembled g.assembled h.assembled;
 }
 
 -- Contents.
@@ -215,6 +227,7 @@ then_by g h = record {
   read_by = λ m. g.read_by m && h.read_by m;
   has_paths = g.has_paths && h.has_paths;
   malformed = says_then (g.has_paths && h.has_paths) g.malformed h.malformed;
+  assembled = both_assembled g.assembled h.assembled;
 }
 
 --- `optional_then g h`: the field `g` or nothing, then the fields `h` [`OptionalThen`]
@@ -230,6 +243,7 @@ optional_then g h = record {
   read_by = λ m. g.read_by m && h.read_by m;
   has_paths = g.has_paths && h.has_paths;
   malformed = says_then (g.has_paths && h.has_paths) g.malformed h.malformed;
+  assembled = both_assembled (if_present g.assembled) h.assembled;
 }
 
 --- `last g`: the field `g` as the last one of contents [`Last`]
@@ -253,6 +267,7 @@ last_optional g = record {
   read_by = g.read_by;
   has_paths = g.has_paths;
   malformed = g.malformed;
+  assembled = if_present g.assembled;
 }
 
 --- `contents_choice g r h`: the fields `g` and `r`, or else the fields `h` [`ContentsChoice`]
@@ -270,6 +285,7 @@ contents_choice g r h = record {
   has_paths = g.has_paths && r.has_paths && h.has_paths;
   malformed = either_says (says_then (g.has_paths && r.has_paths) g.malformed r.malformed)
       h.malformed;
+  assembled = either_assembled (both_assembled g.assembled r.assembled) h.assembled;
 }
 
 -- of the first kind if and only if t
@@ -293,4 +309,6 @@ selected id P test reason chosen g h = record {
   has_paths = g.has_paths && h.has_paths;
   malformed = says_then (g.has_paths && h.has_paths) (says_malformed id P reason)
       (either_says g.malformed h.malformed);
+  assembled = both_assembled (after_header id all_copied)
+      (either_assembled g.assembled h.assembled);
 }

@@ -1,5 +1,6 @@
 pub mod Canonical
 pub mod Writing
+pub mod Assembly
 pub mod Sinks
 pub mod Received
 pub mod FirstOctets

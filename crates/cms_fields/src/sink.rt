@@ -7,6 +7,7 @@ ghost use Rattle.std.specs.Prelude.{◌≡◌, ◌+◌, ℕ, List, length, min, 
 ghost use Rattle.cms_tlv.specs.Spans.{borrowed_spans};
 ghost use Rattle.cms_tlv.specs.Spelling.{join};
 ghost use Rattle.cms_tlv.specs.Writing.{IsDerHeader};
+ghost use Rattle.cms_fields.specs.Assembly.{marked, copied, made};
 ghost use Rattle.cms_fields.specs.Received.{spanned_in};
 
 use crate::indexed::Items;
@@ -25,11 +26,12 @@ impl From<AllocError> for Stop {
 
 /// Takes octets, each before those already taken. After an error its state is unknown.
 pub trait Sink {
-    ghost use Rattle.std.specs.Prelude.{◌≡◌, ◌+◌, ℕ, List, length, true, false, IfOk, OnErr, OnOk};
+    ghost use Rattle.std.specs.Prelude.{◌≡◌, ◌+◌, List, length, map, true, false, IfOk, OnErr, OnOk};
     ghost use Rattle.std.specs.List.{AllByRecursion};
     ghost use Rattle.cms_tlv.specs.Frames.{IsDerFrame};
     ghost use Rattle.cms_tlv.specs.Spans.{octets_in, borrowed_spans};
     ghost use Rattle.cms_tlv.specs.Spelling.{join};
+    ghost use Rattle.cms_fields.specs.Assembly.{Marked, marked, copied, made, unmarked, join_marked};
     ghost use Rattle.cms_fields.specs.Received.{spanned_in};
     ghost use Rattle.cms_fields.specs.Sinks.{Taking, TakingLaws, Sorts};
 
@@ -40,30 +42,31 @@ pub trait Sink {
     fn count(&self) -> u64
         ensures { result ≡ taking.count self.now };
 
-    /// Takes octets.
+    /// Takes octets that are made.
     fn octets(&mut self, kept: &[u8], octets: &[u8]) -> Result<(), Stop>
-        ensures ok { OnOk result (taking.puts kept.now self.old octets.now self.new) }
+        ensures ok { OnOk result (taking.puts kept.now self.old (marked made octets.now) self.new) }
         ensures stops { OnErr result (taking.stops (taking.count self.old + length octets.now)) };
 
-    /// Takes the octets of `kept` that a span names.
+    /// Takes the octets of `kept` that a span names: they are copied.
     fn span(&mut self, kept: &[u8], span: Span) -> Result<(), Stop>
         ensures ok { OnOk result (taking.puts kept.now self.old
-            (octets_in kept.now span.start span.end) self.new) }
+            (marked copied (octets_in kept.now span.start span.end)) self.new) }
         ensures stops { OnErr result (taking.stops
             (taking.count self.old + length (octets_in kept.now span.start span.end))) };
 
     /// Takes all octets of `kept` that the spans name in one step, or none. Returns whether it took them.
     fn spans_at_once(&mut self, kept: &[u8], spans: BorrowedSpans<'_>) -> Result<bool, Stop>
         ensures taken { IfOk result (λ taken. taken ≡ true → taking.puts kept.now self.old
-            (join (spanned_in kept.now (borrowed_spans spans.entry))) self.new) }
+            (marked copied (join (spanned_in kept.now (borrowed_spans spans.entry)))) self.new) }
         ensures left { IfOk result (λ taken. taken ≡ false → self.new ≡ self.old) }
         ensures stops { OnErr result (taking.stops (taking.count self.old
             + length (join (spanned_in kept.now (borrowed_spans spans.entry))))) };
 
     /// Sorts the elements that it took after its first `from` octets, in ascending order (X.690, 11.6).
     fn sort(&mut self, kept: &[u8], from: u64) -> Result<(), Stop>
-        ensures ok { OnOk result ((s : Self) (frames : List (List ℕ)) → taking.count s ≡ from
-            → AllByRecursion IsDerFrame frames → taking.puts kept.now s (join frames) self.old
+        ensures ok { OnOk result ((s : Self) (frames : List (List Marked)) → taking.count s ≡ from
+            → AllByRecursion IsDerFrame (map unmarked frames)
+            → taking.puts kept.now s (join_marked frames) self.old
             → Sorts taking kept.now s frames self.new) }
         ensures stops { OnErr result (taking.stops (taking.count self.old)) };
 
@@ -75,7 +78,7 @@ pub trait Sink {
 /// Gives a sink the octets of `kept` that spans name, one after another.
 pub fn emit_spans<S: Sink>(spans: BorrowedSpans<'_>, kept: &[u8], sink: &mut S) -> Result<(), Stop>
     ensures ok { OnOk result (S.taking.puts kept.now sink.old
-        (join (spanned_in kept.now (borrowed_spans spans.entry))) sink.new) }
+        (marked copied (join (spanned_in kept.now (borrowed_spans spans.entry)))) sink.new) }
     ensures stops { OnErr result (S.taking.stops (S.taking.count sink.old
         + length (join (spanned_in kept.now (borrowed_spans spans.entry))))) }
 {
@@ -88,7 +91,7 @@ pub fn emit_spans<S: Sink>(spans: BorrowedSpans<'_>, kept: &[u8], sink: &mut S) 
 /// Gives a sink the octets of `kept` that spans name, each span by itself.
 fn emit_each<S: Sink>(spans: BorrowedSpans<'_>, kept: &[u8], sink: &mut S) -> Result<(), Stop>
     ensures ok { OnOk result (S.taking.puts kept.now sink.old
-        (join (spanned_in kept.now (borrowed_spans spans.entry))) sink.new) }
+        (marked copied (join (spanned_in kept.now (borrowed_spans spans.entry)))) sink.new) }
     ensures stops { OnErr result (S.taking.stops (S.taking.count sink.old
         + length (join (spanned_in kept.now (borrowed_spans spans.entry))))) }
 {
@@ -107,7 +110,7 @@ fn emit_each<S: Sink>(spans: BorrowedSpans<'_>, kept: &[u8], sink: &mut S) -> Re
 /// Gives a sink the identifier octet `ident` and the shortest length octets of `n` (X.690, 10.1).
 pub(crate) fn emit_header<S: Sink>(ident: u8, n: u64, kept: &[u8], sink: &mut S) -> Result<(), Stop>
     ensures ok { OnOk result ((b : List ℕ) × IsDerHeader ident n b
-        × S.taking.puts kept.now sink.old b sink.new) }
+        × S.taking.puts kept.now sink.old (marked made b) sink.new) }
     ensures stops { OnErr result ((b : List ℕ) → IsDerHeader ident n b
         → S.taking.stops (S.taking.count sink.old + length b)) }
 {

@@ -7,6 +7,7 @@
 //! dictionary for each bound, and their number would grow with the square of a record's depth.
 ghost use Rattle.std.specs.Prelude.{OnErr, OnOk};
 ghost use Rattle.cms_tlv.specs.Spelling.{element, der};
+ghost use Rattle.cms_fields.specs.Assembly.{after_header};
 ghost use Rattle.cms_fields.specs.Sinks.{Emits, MayStop};
 
 use crate::sink::{Sink, Stop, emit_header};
@@ -21,7 +22,7 @@ pub trait Write {
     // The value that it stands for.
     ghost Value: { Type 0 };
 
-    // How that is spelled and read, and which values are the same.
+    // How that is spelled and read, which values are the same, and of what its DER is assembled.
     ghost grammar: { Grammar Value };
 
     // The value, in the kept octets.
@@ -30,8 +31,8 @@ pub trait Write {
     /// Gives its encoding to a sink, from the last octet to the first.
     fn emit<S: Sink>(&self, kept: &[u8], sink: &mut S) -> Result<(), Stop>
         requires { grammar.is_value (value kept.now self.now) }
-        ensures ok { OnOk result (Emits S.taking (grammar.spelled der) grammar.same
-            (value kept.now self.now) kept.now sink.old sink.new) }
+        ensures ok { OnOk result (Emits S.taking (grammar.spelled der) grammar.assembled
+            grammar.same (value kept.now self.now) kept.now sink.old sink.new) }
         ensures stops { OnErr result (MayStop S.taking (grammar.spelled der) grammar.same
             (value kept.now self.now) (S.taking.count sink.old)) };
 
@@ -52,7 +53,8 @@ pub fn emit_element<T: Write, S: Sink>(
 ) -> Result<(), Stop>
     requires { T.grammar.is_value (T.value kept.now contents.now) }
     ensures ok { OnOk result (Emits S.taking (element der ident (T.grammar.spelled der))
-        T.grammar.same (T.value kept.now contents.now) kept.now sink.old sink.new) }
+        (after_header ident T.grammar.assembled) T.grammar.same (T.value kept.now contents.now)
+        kept.now sink.old sink.new) }
     ensures stops { OnErr result (MayStop S.taking (element der ident (T.grammar.spelled der))
         T.grammar.same (T.value kept.now contents.now) (S.taking.count sink.old)) }
 {

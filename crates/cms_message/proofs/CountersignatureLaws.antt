@@ -110,11 +110,12 @@ module _ (bd : Bound) {a b : State} {o : Option ℕ} (next : RefinesWithValue pl
   is_end t = subst (λ r. Simulates (no_countersignatures_of bd) a r b) (ap (λ k. cond k (too_deep_of bd) (ended bd)) t) (reaches_bind _ next.reaches)
 
 pub none_emits : {S : Type 0} {t : Taking S} → TakingLaws t → (k : List ℕ) (a : S)
-    → Emits t (no_countersignatures.spelled der) (no_countersignatures.same) [] k a a
+    → Emits t (no_countersignatures.spelled der) no_countersignatures.assembled no_countersignatures.same [] k a a
 none_emits laws k a = record {
   octets = [];
   put = laws.nothing k a;
   written = record { value = []; spells = none_spelled der; same = refl };
+  assembled = record { value = []; assembles = ([], refl, tt, tt); same = refl };
   each = λ b w. ap length (only_none der b w.value w.spells).0;
 }
 

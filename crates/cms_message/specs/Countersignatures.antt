@@ -4,6 +4,7 @@ use Rattle.cms_tlv.specs.declared.bound.Bound.{Bound}
 use Rattle.cms_tlv.specs.declared.fault.Reason.TheVariants.{OidMalformed, CountersignTooDeep}
 use Rattle.cms_tlv.specs.Spelling.{members}
 use Rattle.cms_tlv.specs.Reading.{Reader, ◌>>=◌, give, refuse, enter_of, close_of, peek_of, may_be}
+use Rattle.cms_fields.specs.Assembly.{each_in_order}
 use Rattle.cms_fields.specs.Grammar.{Grammar, unread, tagged, opaque_element, last, selected}
 use Rattle.cms_setof.specs.Grammar.{set_of}
 use Rattle.cms_setof.specs.Same.{same_members}
@@ -46,4 +47,5 @@ no_countersignatures =
       is_contents = true;
       reader = no_countersignatures_of;
       read_by = λ m. true;
+      assembled = each_in_order (λ ms v. ⊥);
     }

@@ -9,6 +9,7 @@ use Rattle.cms_tlv.specs.Spelling.{Rules, ber, minimal, der, Spelling, ◌⨟◌
 use Rattle.cms_tlv.specs.Reading.{Reader}
 use Rattle.cms_tlv.specs.Law.{ReadsTo, IsContents}
 use Rattle.cms_tlv.proofs.SpellingLaws.{maybe_contents}
+use Rattle.cms_fields.specs.Assembly.{Marked, Assembly, IsAssembled}
 use Rattle.cms_fields.specs.FirstOctets.{are_apart}
 use Rattle.cms_fields.specs.Readers.{Begins}
 use Rattle.cms_fields.specs.Canonical.{IsByDer}
@@ -17,7 +18,7 @@ use Rattle.cms_fields.specs.Writing.{IsWritten}
 use Rattle.cms_fields.proofs.ReaderLaws.{avoids, maybe_both_read, maybe_begins, pairs}
 use Rattle.cms_fields.proofs.DerLaws.{maybe_by_der}
 use Rattle.cms_scalars.specs.Image.{image}
-use Rattle.cms_scalars.specs.Booleans.{boolean, is_set, default_false, with_default_false, default_false_then_of}
+use Rattle.cms_scalars.specs.Booleans.{boolean, is_set, default_false, unless_false, with_default_false, default_false_then_of}
 use Rattle.cms_scalars.proofs.Made.{made_contents, made_contents_read}
 use Rattle.cms_scalars.proofs.Truth.{boolean_reads, boolean_field, boolean_by_der}
 
@@ -103,12 +104,20 @@ true_alike true e o = (
       record { value = true; spells = subst (default_false der o) (sym z) w.spells; same = refl }),
 )
 
+pub true_assembled : {A : Assembly Bool} (v : Bool) → v ≡ true → (m : List Marked) → IsAssembled A beq true m → IsAssembled (unless_false A) beq v m
+true_assembled false e m h = absurd cc
+true_assembled {A = A} true e m h =
+    let z : true ≡ h.value = (booleans_Decides true h.value).0 h.same in
+    record { value = true; assembles = subst (A m) (sym z) h.assembles; same = refl }
+
 -- for FALSE nothing is
-pub false_emits : {S : Type 0} {t : Taking S} → TakingLaws t → (v : Bool) → v ≡ false → (k : List ℕ) (a : S) → Emits t (default_false der) beq v k a a
-false_emits laws true e k a = absurd cc
-false_emits laws false e k a = record {
+pub false_emits : {S : Type 0} {t : Taking S} (A : Assembly Bool) → TakingLaws t → (v : Bool) → v ≡ false → (k : List ℕ) (a : S)
+    → Emits t (default_false der) (unless_false A) beq v k a a
+false_emits A laws true e k a = absurd cc
+false_emits A laws false e k a = record {
   octets = [];
   put = laws.nothing k a;
   written = record { value = false; spells = refl; same = refl };
+  assembled = record { value = false; assembles = refl; same = refl };
   each = λ o w. (let z : false ≡ w.value = (booleans_Decides false w.value).0 w.same in ap length (subst (default_false der o) (sym z) w.spells));
 }

@@ -1,5 +1,5 @@
 -- BIT STRING with a named-bit list: its reader and its spelling, and what is written.
-use Rattle.std.proofs.Common.{◌≡◌, ◌≢◌, ℕ, ◌+◌, ◌-◌, ◌*◌, ◌<◌, ◌≤◌, min, true, ◌==◌, List, [], ◌∷◌, ◌++◌, length, take, drop, replicate, w8, refl, sym, ap, subst, ◌∙◌, append_assoc, arith}
+use Rattle.std.proofs.Common.{◌≡◌, ◌≢◌, ℕ, ◌+◌, ◌-◌, ◌*◌, ◌<◌, ◌≤◌, true, ◌==◌, List, [], ◌∷◌, ◌++◌, length, take, drop, replicate, w8, refl, sym, ap, subst, ◌∙◌, append_assoc, arith}
 use Rattle.std.specs.Prelude.{bytes_eq}
 use Rattle.std.specs.Int.{trailing_zeros}
 use Rattle.std.specs.Cmp.Lexicographic.{nat_list_eq_equiv}
@@ -15,10 +15,10 @@ use Rattle.cms_tlv.specs.Reading.{scalar_of}
 use Rattle.cms_tlv.proofs.Inverse.{eqb_yes, ltb_yes}
 use Rattle.cms_tlv.proofs.Elements.{scalar_reads}
 use Rattle.cms_tlv.proofs.SpellingLaws.{primitive_field}
+use Rattle.cms_fields.specs.Assembly.{all_made, marked, made}
 use Rattle.cms_fields.specs.Canonical.{IsCanonical, IsByDer, IsDerFramed}
-use Rattle.cms_fields.specs.Writing.{IsWritten}
 use Rattle.cms_fields.proofs.FirstOctetLaws.{is_primitive}
-use Rattle.cms_fields.proofs.CanonicalLaws.{canonical_by, to_equal, element_framed}
+use Rattle.cms_fields.proofs.CanonicalLaws.{canonical_by, element_framed}
 use Rattle.cms_fields.proofs.DerLaws.{element_by_der}
 use Rattle.cms_fields.proofs.ReaderLaws.{begins_as}
 use Rattle.cms_fields.specs.Sinks.{Taking, Emits, MayStop}
@@ -277,8 +277,9 @@ empty_spelled =
     }
 
 module _ {v c : List ℕ} (k : IsNamedBits der c v) where
-  pub bits_emit : {S : Type 0} {t : Taking S} {kept : List ℕ} {a b : S} → t.puts kept a c b → Emits t (IsNamedBits der) bytes_eq v kept a b
-  bits_emit = canonical_emits contents_canonical nat_list_eq_equiv k
+  pub bits_emit : {S : Type 0} {t : Taking S} {kept : List ℕ} {a b : S} → t.puts kept a (marked made c) b
+      → Emits t (IsNamedBits der) (all_made (IsNamedBits der)) bytes_eq v kept a b
+  bits_emit = canonical_emits contents_canonical nat_list_eq_equiv k (c, refl, k)
 
   pub bits_stop : {S : Type 0} (t : Taking S) (n : ℕ) → t.stops (n + length c) → MayStop t (IsNamedBits der) bytes_eq v n
   bits_stop = canonical_stops contents_canonical nat_list_eq_equiv k

@@ -9,7 +9,7 @@ use Rattle.std.specs.Cmp.{booleans_Decides, bool_eq_equiv}
 use Rattle.cms_tlv.specs.Law.{Reads, IsField}
 use Rattle.cms_tlv.proofs.SpellingLaws.{primitive_field}
 use Rattle.cms_fields.specs.Canonical.{IsCanonical, IsByDer, IsDerFramed}
-use Rattle.cms_fields.proofs.CanonicalLaws.{canonical_by, to_equal, element_framed}
+use Rattle.cms_fields.proofs.CanonicalLaws.{canonical_by, element_framed}
 use Rattle.cms_fields.proofs.DerLaws.{element_by_der}
 use Rattle.cms_fields.proofs.ReaderLaws.{begins_as}
 use Rattle.cms_tlv.specs.Reading.{scalar_of}

@@ -5,6 +5,7 @@ use Rattle.cms_tlv.specs.declared.fault.Reason.TheVariants.{BooleanMalformed}
 use Rattle.cms_tlv.specs.declared.bound.Bound.{Bound}
 use Rattle.cms_tlv.specs.Headers.{IsOctet}
 use Rattle.cms_tlv.specs.Spelling.{Rules, ber, minimal, der, Spelling, element, optional}
+use Rattle.cms_fields.specs.Assembly.{Assembly}
 use Rattle.cms_fields.specs.Readers.{optional_then_of}
 use Rattle.cms_scalars.specs.Image.{image}
 use Rattle.cms_tlv.specs.Reading.{Reader, ◌>>=◌, give, scalar_of}
@@ -39,6 +40,11 @@ default_false ber b v = image is_set (optional (boolean ber)) b v
 default_false minimal b v = image is_set (optional (boolean minimal)) b v
 default_false der b true = boolean der b true
 default_false der b false = b ≡ []
+
+--- `unless_false A`: no octets for FALSE, else what `A` assembles [X.690, 11.5]
+abbrev pub unless_false : Assembly Bool → Assembly Bool
+unless_false A ms true = A ms true
+unless_false A ms false = ms ≡ []
 
 -- whether there is one octet
 abbrev pub is_one_octet : List ℕ → Bool

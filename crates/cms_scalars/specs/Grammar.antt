@@ -8,10 +8,11 @@ use Rattle.cms_fields.specs.FirstOctets.{is_primitive_octet, are_apart}
 use Rattle.cms_tlv.specs.declared.fault.Reason.TheVariants.{IntegerMalformed, OidMalformed}
 use Rattle.cms_tlv.specs.declared.fault.Reason.TheVariants.{BooleanMalformed, BitsMalformed}
 use Rattle.cms_tlv.specs.declared.fault.Reason.TheVariants.{UnexpectedElement}
+use Rattle.cms_fields.specs.Assembly.{after_header, all_copied, all_made, both_assembled}
 use Rattle.cms_fields.specs.Grammar.{Grammar, unread, primitive, constrained}
 use Rattle.cms_scalars.specs.Bits.{IsNamedBits, named_bits, named_bits_of}
 use Rattle.cms_scalars.specs.Booleans.{truth, boolean, boolean_of, default_false}
-use Rattle.cms_scalars.specs.Booleans.{default_false_then_of}
+use Rattle.cms_scalars.specs.Booleans.{default_false_then_of, unless_false}
 use Rattle.cms_scalars.specs.Octets.{octet_string}
 use Rattle.cms_scalars.specs.Readers.{is_integer, is_object_identifier, is_string_octet}
 use Rattle.cms_scalars.specs.Readers.{octet_string_of}
@@ -54,6 +55,7 @@ named_bits_type = record (unread named_bits (λ v. Unit {0}) bytes_eq) {
   reader = named_bits_of;
   read_by = is_not_der;
   malformed = says_malformed 0x03 (λ c. (v : List ℕ) × IsNamedBits ber c v) BitsMalformed;
+  assembled = after_header 0x03 (all_made (IsNamedBits der));
 }
 
 --- `boolean_type`: what `boolean` spells [X.690, 8.2]
@@ -64,6 +66,7 @@ boolean_type = record (unread boolean (λ v. Unit {0}) beq) {
   reader = boolean_of;
   read_by = is_not_der;
   malformed = says_malformed 0x01 (λ c. (v : Bool) × truth ber c v) BooleanMalformed;
+  assembled = all_made (boolean der);
 }
 
 --- `octet_string_type id`: what `octet_string id` spells [X.690, 8.7]
@@ -73,6 +76,7 @@ octet_string_type id = record (unread (octet_string id) AreOctets bytes_eq) {
   is_field = is_primitive_octet id;
   reader = octet_string_of id;
   read_by = is_not_der;
+  assembled = after_header id all_copied;
 }
 
 --- `default_false_then h`: what `default_false` spells, then the fields `h` [X.690, 11.5]
@@ -88,4 +92,5 @@ default_false_then h = record {
   read_by = λ m. is_not_der m && h.read_by m;
   has_paths = h.has_paths;
   malformed = says_then h.has_paths boolean_type.malformed h.malformed;
+  assembled = both_assembled (unless_false boolean_type.assembled) h.assembled;
 }

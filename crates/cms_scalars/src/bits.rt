@@ -7,9 +7,11 @@ ghost use Rattle.std.specs.Int.{w8, trailing_zeros};
 ghost use Rattle.cms_tlv.specs.Headers.{AreOctets};
 ghost use Rattle.cms_tlv.specs.Reading.{refuse};
 ghost use Rattle.cms_tlv.specs.Spans.{octets_in};
+ghost use Rattle.cms_tlv.specs.Spelling.{der};
 ghost use Rattle.cms_tlv.specs.declared.tags.TheConstants.{BIT_STRING};
 ghost use Rattle.cms_scalars.specs.Scalars.{bits, bits_of};
 ghost use Rattle.cms_scalars.specs.Bits.{IsNamedBits, without_trailing_zeros, used_bits, bits_of_contents, bits_in, borrowed_bits, is_bit_string};
+ghost use Rattle.cms_fields.specs.Assembly.{all_made, marked, made};
 ghost use Rattle.cms_fields.specs.Grammar.{unread};
 ghost use Rattle.cms_scalars.specs.Grammar.{named_bits_type};
 
@@ -49,7 +51,9 @@ struct BitContents(Span);
 impl Write for BitContents {
     ghost Value = { List ℕ };
 
-    ghost grammar = { unread IsNamedBits (λ v. Unit {0}) bytes_eq };
+    ghost grammar = { record (unread IsNamedBits (λ v. Unit {0}) bytes_eq) {
+      assembled = all_made (IsNamedBits der);
+    } };
 
     ghost value = { λ k x. bits_of_contents (octets_in k x.0.start x.0.end) };
 
@@ -139,8 +143,8 @@ impl<'a> BitOctets<'a> {
 
     /// Gives a sink these octets after the number of zeros at their end.
     fn emit_contents<S: Sink>(&self, kept: &[u8], sink: &mut S) -> Result<(), Stop>
-        ensures ok { OnOk result (S.taking.puts kept.now sink.old
-            (trailing_zeros w8 self.now.last ∷ (self.now.front.now ++ self.now.last ∷ []))
+        ensures ok { OnOk result (S.taking.puts kept.now sink.old (marked made
+            (trailing_zeros w8 self.now.last ∷ (self.now.front.now ++ self.now.last ∷ [])))
             sink.new) }
         ensures stops { OnErr result (S.taking.stops (S.taking.count sink.old + length
             (trailing_zeros w8 self.now.last ∷ (self.now.front.now ++ self.now.last ∷ [])))) }

@@ -11,6 +11,7 @@ ghost use Rattle.cms_tlv.specs.RefusalReasons.{SaysWhy};
 ghost use Rattle.cms_tlv.specs.Spelling.{der};
 ghost use Rattle.cms_tlv.specs.declared.tags.TheConstants.{BOOLEAN};
 ghost use mathlib.Core.Bool.{beq};
+ghost use Rattle.cms_fields.specs.Assembly.{all_made};
 ghost use Rattle.cms_fields.specs.Sinks.{Emits, MayStop};
 ghost use Rattle.cms_scalars.specs.Booleans.{boolean, boolean_of, is_one_octet, is_true, IsTrueInDer};
 ghost use Rattle.cms_scalars.specs.Grammar.{boolean_type};
@@ -137,7 +138,8 @@ pub fn put_true(out: &mut Vec<u8>) -> Result<(), AllocError>
 
 /// Gives a sink TRUE in DER.
 pub(crate) fn emit_true<S: Sink>(kept: &[u8], sink: &mut S) -> Result<(), Stop>
-    ensures ok { OnOk result (Emits S.taking (boolean der) beq true kept.now sink.old sink.new) }
+    ensures ok { OnOk result (Emits S.taking (boolean der) (all_made (boolean der)) beq true
+        kept.now sink.old sink.new) }
     ensures stops { OnErr result (MayStop S.taking (boolean der) beq true
         (S.taking.count sink.old)) }
 {
@@ -146,7 +148,8 @@ pub(crate) fn emit_true<S: Sink>(kept: &[u8], sink: &mut S) -> Result<(), Stop>
 
 /// Gives a sink FALSE in DER.
 fn emit_false<S: Sink>(kept: &[u8], sink: &mut S) -> Result<(), Stop>
-    ensures ok { OnOk result (Emits S.taking (boolean der) beq false kept.now sink.old sink.new) }
+    ensures ok { OnOk result (Emits S.taking (boolean der) (all_made (boolean der)) beq false
+        kept.now sink.old sink.new) }
     ensures stops { OnErr result (MayStop S.taking (boolean der) beq false
         (S.taking.count sink.old)) }
 {

@@ -1,9 +1,9 @@
 //! BOOLEAN DEFAULT FALSE (X.690, 11.5).
 ghost use mathlib.Core.Bool.{beq};
 ghost use Rattle.std.specs.Prelude.{◌≡◌, Bool, false, option_map};
-ghost use Rattle.cms_scalars.specs.Booleans.{default_false, is_set};
+ghost use Rattle.cms_scalars.specs.Booleans.{default_false, is_set, unless_false};
 ghost use Rattle.cms_fields.specs.Grammar.{unread};
-ghost use Rattle.cms_scalars.specs.Grammar.{default_false_then};
+ghost use Rattle.cms_scalars.specs.Grammar.{boolean_type, default_false_then};
 
 use crate::booleans::{Boolean, emit_true};
 use cms_fields::{Fields, OptionalThen, Sink, Stop, Then, Write};
@@ -38,7 +38,9 @@ struct DefaultFalse(bool);
 impl Write for DefaultFalse {
     ghost Value = { Bool };
 
-    ghost grammar = { unread default_false (λ v. Unit {0}) beq };
+    ghost grammar = { record (unread default_false (λ v. Unit {0}) beq) {
+      assembled = unless_false boolean_type.assembled;
+    } };
 
     ghost value = { λ k x. x.0 };
 

@@ -23,7 +23,7 @@ ghost use Rattle.cms_scalars.specs.Octets.{octets, octet_string_parts};
 ghost use Rattle.cms_scalars.specs.Readers.{octet_string_parts_of, segments_of, part_of, parts_of};
 ghost use Rattle.cms_scalars.specs.internal.Segments.{SeesSegment, SeesNoSegment};
 ghost use Rattle.cms_scalars.specs.Borrowed.{parts_in, added_spans, AddsSpans, borrowed_pieces};
-ghost use Rattle.cms_fields.specs.Grammar.{unread};
+ghost use Rattle.cms_fields.specs.Grammar.{octets_with};
 ghost use Rattle.cms_scalars.specs.Grammar.{octet_string_type};
 
 use cms_fields::{
@@ -44,7 +44,7 @@ struct Parts(Spans);
 impl Write for Parts {
     ghost Value = { List ℕ };
 
-    ghost grammar = { unread (λ m. octets) AreOctets bytes_eq };
+    ghost grammar = { octets_with AreOctets };
 
     ghost value = { λ k x. join (spanned_in k x.0) };
 

@@ -1,7 +1,7 @@
 -- Frames one after another that were sorted at once, or by halves.
 use Rattle.std.proofs.Common.{◌≡◌, ℕ, suc, ◌+◌, ◌-◌, List, [], ◌∷◌, ◌++◌, length, map, take, drop, refl, sym, ◌∙◌, ap, subst, arith, true, false, IsPermutation}
 use borrow.Rule.Slice.PartMut.{put_mid}
-use Rattle.std.specs.List.{AllByRecursion}
+use Rattle.std.specs.List.{AllByRecursion, flat_map}
 use Rattle.std.specs.List.Sorted.{IsSortedBy}
 use Rattle.std.specs.Cmp.Lexicographic.{slice_cmp, nat_list_cmp_total}
 use Rattle.std.specs.Ordering.{nat_cmp, is_lt, ordering_reverse}
@@ -24,7 +24,7 @@ pub der_still : (bs cs : List (List ℕ)) → IsPermutation bs cs → AllByRecur
 der_still bs cs m p = recursion_from_All IsDerFrame cs (All-permutation IsDerFrame bs cs m (All-from_recursion IsDerFrame bs p))
 
 -- what is sorted has as many octets
-pub same_length : (bs cs : List (List ℕ)) → IsPermutation bs cs → length (join cs) ≡ length (join bs)
+pub same_length : {A : Type 0} (bs cs : List (List A)) → IsPermutation bs cs → length (flat_map (λ b. b) cs) ≡ length (flat_map (λ b. b) bs)
 same_length bs cs m = length-flat_map (λ b. b) cs ∙ (sum_by-IsPermutation (λ b. length b) bs cs m ∙ sym (length-flat_map (λ b. b) bs))
 
 not_after : (b c : List ℕ) → Frame b → Frame c → is_lt (slice_cmp nat_cmp c b) ≡ false → ComesAfter b c → ⊥

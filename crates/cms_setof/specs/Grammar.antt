@@ -5,6 +5,7 @@ use Rattle.cms_tlv.specs.declared.fault.Reason.TheVariants.{EmptyAttributes}
 use Rattle.cms_tlv.specs.Spelling.{members}
 use Rattle.cms_tlv.specs.Reading.{members_of}
 use Rattle.cms_tlv.specs.RefusalReasons.{says_later}
+use Rattle.cms_fields.specs.Assembly.{each_in_order}
 use Rattle.cms_fields.specs.Grammar.{Grammar, where_only}
 use Rattle.cms_setof.specs.Readers.{has_member}
 use Rattle.cms_setof.specs.Same.{same_members}
@@ -22,6 +23,7 @@ set_of g = record {
   read_by = g.read_by;
   has_paths = g.has_paths;
   malformed = says_later g.has_paths g.malformed;
+  assembled = each_in_order g.assembled;
 }
 
 --- `some_of g`: the contents of such a set of at least one field `g` [`NonEmptySetOf`]

@@ -2,3 +2,4 @@
 pub mod Merging
 pub mod Sorting
 pub mod Pouring
+pub mod Tracing

@@ -1,5 +1,6 @@
 //! A sink that compares.
 ghost use Rattle.std.specs.Prelude.{◌≡◌, ◌+◌, ◌++◌, length, take};
+ghost use Rattle.cms_fields.specs.Assembly.{unmarked};
 
 use crate::ascending::frames_ascend;
 use cms_fields::{Sink, Stop};
@@ -34,7 +35,8 @@ impl Comparing {
 
 impl Sink for Comparing {
     ghost taking = { record {
-      puts = λ k s q t. (take s.at k ≡ take t.at k ++ q) × (t.count ≡ s.count + length q);
+      puts = λ k s q t. (take s.at k ≡ take t.at k ++ unmarked q)
+          × (t.count ≡ s.count + length q);
       count = λ s. s.count;
       stops = λ n. Unit {0};
     } };

@@ -1,13 +1,19 @@
 //! What is computed by walking a value.
 ghost use Rattle.std.specs.Prelude.{◌≡◌, ◌++◌, length, true, OnOk, OnErr, IfOk};
 ghost use Rattle.cms_tlv.specs.Spelling.{element, der};
+ghost use Rattle.std.specs.List.{All};
+ghost use Rattle.cms_fields.specs.Assembly.{unmarked, IsAssembled};
 ghost use Rattle.cms_fields.specs.Writing.{IsWritten, Writes, HasLength};
 ghost use Rattle.cms_setof.specs.Gathering.{octets_of_parts};
+ghost use Rattle.cms_setof.specs.Pieces.{marked_pieces, HasOctets, AreJoined};
 
 use crate::comparing::Comparing;
 use crate::count::Count;
 use crate::gathered::Gathered;
 use crate::gathering::Gathering;
+use crate::joining::in_order;
+use crate::piece::Piece;
+use crate::tracing::Tracing;
 use cms_fields::{Sink, Write, emit_element};
 use std::alloc::{AllocError, Global};
 
@@ -84,6 +90,25 @@ pub fn gather<T: Write>(
     let mut sink = Gathering::new(alloc, len)?;
     match value.emit(kept, &mut sink) {
         Ok(()) => Ok(sink.gathered),
+        Err(_) => Err(AllocError),
+    }
+}
+
+/// Of which octets the encoding of a value is made up: those that are copied from the input, by spans in
+/// `kept`, and those that are made, which are headers, the contents of a BOOLEAN, and named bits. No two
+/// neighbours could be one piece. An error means out of memory.
+pub fn pieces<T: Write>(value: &T, alloc: Global, kept: &[u8]) -> Result<Vec<Piece>, AllocError>
+    requires { T.grammar.is_value (T.value kept.now value.now) }
+    ensures written { IfOk result (λ v. IsWritten (T.grammar.spelled der) T.grammar.same
+        (T.value kept.now value.now) (unmarked (marked_pieces kept.now v.items))) }
+    ensures assembled { IfOk result (λ v. IsAssembled T.grammar.assembled T.grammar.same
+        (T.value kept.now value.now) (marked_pieces kept.now v.items)) }
+    ensures have { IfOk result (λ v. All (HasOctets kept.now) v.items) }
+    ensures joined { IfOk result (λ v. AreJoined v.items) }
+{
+    let mut tracing = Tracing::new(alloc);
+    match value.emit(kept, &mut tracing) {
+        Ok(()) => in_order(tracing.pieces, kept, alloc),
         Err(_) => Err(AllocError),
     }
 }

@@ -1,5 +1,6 @@
 //! A sink that gathers.
 ghost use Rattle.std.specs.Prelude.{◌≡◌, ◌+◌, ◌++◌, length};
+ghost use Rattle.cms_fields.specs.Assembly.{unmarked};
 ghost use Rattle.cms_setof.specs.Gathering.{octets_of_parts};
 
 use crate::encoding::{EncodedLen, LongString};
@@ -52,7 +53,8 @@ impl Gathering {
 
 impl Sink for Gathering {
     ghost taking = { record {
-      puts = λ k s q t. (octets_of_parts k t.gathered ≡ q ++ octets_of_parts k s.gathered)
+      puts = λ k s q t.
+          (octets_of_parts k t.gathered ≡ unmarked q ++ octets_of_parts k s.gathered)
           × (t.count ≡ s.count + length q);
       count = λ s. s.count;
       stops = λ n. Unit {0};

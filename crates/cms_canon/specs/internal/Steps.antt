@@ -6,6 +6,8 @@ use Rattle.cms_tlv.specs.declared.fault.Reason.TheVariants as reasons
 use Rattle.cms_tlv.specs.Clauses.{Found}
 use Rattle.cms_tlv.specs.Spelling.{Spelling}
 use Rattle.cms_tlv.specs.State.{State, Looked}
+use Rattle.cms_setof.specs.declared.piece.Piece.{Piece}
+use Rattle.cms_setof.specs.declared.piece.Piece.TheVariants as piece
 use Rattle.cms_canon.specs.declared.convert.Done.{Done}
 use Rattle.cms_canon.specs.declared.message.Tail.{Tail}
 use Rattle.cms_canon.specs.declared.message.Tail.TheVariants as tails
@@ -54,6 +56,10 @@ Rejects r limit tail m (faults.Refused reason at) = ⊥
 Rejects r limit tail m faults.Read = ReadFailed r × Takes r []
 Rejects r limit tail m (faults.Write written) = ⊥
 Rejects r limit tail m faults.OutOfMemory = ⊥
+
+-- one piece that is all of the octets
+abbrev pub AreAllOf : List ℕ → List Piece → Type 0
+AreAllOf octets ps = ps ≡ piece.Copied (record { start = 0; end = length octets }) ∷ []
 
 -- what is written for a message was written, and counted
 pub record IsSent (w : Writing) (m : Whole) (d : Done) : Type 0 where

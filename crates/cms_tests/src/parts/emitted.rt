@@ -1,10 +1,9 @@
 //! A value that gives a sink what several spans name.
-ghost use Rattle.std.specs.Prelude.{ℕ, List, bytes_eq};
+ghost use Rattle.std.specs.Prelude.{ℕ, List};
 ghost use Rattle.cms_tlv.specs.Headers.{AreOctets};
 ghost use Rattle.cms_tlv.specs.Spelling.{join};
-ghost use Rattle.cms_fields.specs.Grammar.{tagged, unread};
+ghost use Rattle.cms_fields.specs.Grammar.{tagged, octets_with};
 ghost use Rattle.cms_fields.specs.Received.{spanned_in};
-ghost use Rattle.cms_scalars.specs.Octets.{octets};
 
 use crate::asserts::assert_same;
 use cms_fields::{Sink, Stop, Write, emit_element, emit_spans, spans_len};
@@ -19,7 +18,7 @@ struct Pieces(Vec<Span>);
 impl Write for Pieces {
     ghost Value = { List ℕ };
 
-    ghost grammar = { unread (λ m. octets) AreOctets bytes_eq };
+    ghost grammar = { octets_with AreOctets };
 
     ghost value = { λ k x. join (spanned_in k x.0.items) };
 
@@ -37,7 +36,7 @@ struct Joined(Pieces);
 impl Write for Joined {
     ghost Value = { List ℕ };
 
-    ghost grammar = { tagged 4 (unread (λ m. octets) AreOctets bytes_eq) };
+    ghost grammar = { tagged 4 (octets_with AreOctets) };
 
     ghost value = { λ k x. join (spanned_in k x.0.0.items) };
 

@@ -1,5 +1,6 @@
 //! Tests of the parts that records are put together from, and of sets, on public calls only.
 
+mod assembled;
 mod bits;
 mod emitted;
 mod fields;

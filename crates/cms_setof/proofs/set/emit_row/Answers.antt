@@ -11,7 +11,7 @@ pub loop-left-init : goal.loop-left-init
 loop-left-init g c = (
   omega arith,
   rw (drop_all (length c.args.row.now) c.args.row.now (omega arith)) (row_none (g.T.Write.grammar.spelled der) g.T.Write.grammar.same
-      (c.law.ensures.field c.requires.is_field).by_der.equivalence c.law-2.ensures),
+      (c.law.ensures.field c.requires.is_field).by_der.equivalence c.law-2.ensures g.T.Write.grammar.assembled),
 )
 
 pub loop-left-preserved : goal.loop-left-preserved
@@ -24,7 +24,7 @@ loop-left-preserved g c =
     let e = drop-cons xs i x l ∙ ap (λ z. z ∷ drop (suc i) xs) (sym c.index-row-left.is) ∙ ap (λ n. x ∷ drop n xs) s in (
       omega arith,
       rw e (row_more (g.T.Write.grammar.spelled der) g.T.Write.grammar.same (c.law.ensures.field c.requires.is_field).by_der.equivalence
-          c.law-2.ensures c.loop-left.invariant.1 c.in_ok-emit.ensures.ok),
+          c.law-2.ensures g.T.Write.grammar.assembled c.loop-left.invariant.1 c.in_ok-emit.ensures.ok),
     )
 
 pub returns-in_err-emit-clause-stops : goal.returns-in_err-emit-clause-stops
@@ -39,7 +39,7 @@ returns-in_err-emit-clause-stops g c =
     let R = g.T.Write.grammar.spelled der in
     let q = (c.law.ensures.field c.requires.is_field).by_der.equivalence in
     let n = g.S.Sink.taking.count c.args.sink.now in
-    let here = member_stops R g.T.Write.grammar.same q c.law-2.ensures c.loop-left.invariant.1 c.in_err-emit.ensures.stops in
+    let here = member_stops R g.T.Write.grammar.same q c.law-2.ensures g.T.Write.grammar.assembled c.loop-left.invariant.1 c.in_err-emit.ensures.stops in
     let there = subst (λ z. RowStops g.S.Sink.taking R g.T.Write.grammar.same n (map f z)) (sym e) here in
     on_err_each c.from_residual.result (set_stops R g.T.Write.grammar.same q c.law-2.ensures n (map f xs)
     (all_stop R g.T.Write.grammar.same q c.law-2.ensures n f i xs there))
@@ -48,7 +48,7 @@ pub returns-clause-ok : goal.returns-clause-ok
 returns-clause-ok g c =
     let law = c.law.ensures.field c.requires.is_field in
     let zero : c.loop-left.left ≡ 0 = omega (arith, c.loop-left-test.false) in
-    let r = subst (λ n. Row g.S.Sink.taking (g.T.Write.grammar.spelled der) g.T.Write.grammar.same
+    let r = subst (λ n. Row g.S.Sink.taking (g.T.Write.grammar.spelled der) g.T.Write.grammar.assembled g.T.Write.grammar.same
     (map (g.T.Write.value c.args.kept.now) (drop n c.args.row.now)) c.args.kept.now c.args.sink.now c.loop-left.sink) zero c.loop-left.invariant.1 in
     on_ok_weaker c.sort.result (λ h. row_emits r law.by_der.equivalence (law.is_field der) law.by_der.canonical
     (h c.args.sink.now r.encodings (sym c.count-from.ensures) (row_frames r law.framed) r.put)) c.sort.ensures.ok
@@ -57,6 +57,6 @@ pub returns-clause-stops : goal.returns-clause-stops
 returns-clause-stops g c =
     let law = c.law.ensures.field c.requires.is_field in
     let zero : c.loop-left.left ≡ 0 = omega (arith, c.loop-left-test.false) in
-    let r = subst (λ n. Row g.S.Sink.taking (g.T.Write.grammar.spelled der) g.T.Write.grammar.same
+    let r = subst (λ n. Row g.S.Sink.taking (g.T.Write.grammar.spelled der) g.T.Write.grammar.assembled g.T.Write.grammar.same
     (map (g.T.Write.value c.args.kept.now) (drop n c.args.row.now)) c.args.kept.now c.args.sink.now c.loop-left.sink) zero c.loop-left.invariant.1 in
     on_err_weaker c.sort.result (sort_stops r law.by_der.equivalence c.law-2.ensures) c.sort.ensures.stops

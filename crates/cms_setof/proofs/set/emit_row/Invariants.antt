@@ -6,7 +6,7 @@ use Rattle.cms_setof.proofs.set.emit_row.Given as goal
 abbrev pub invariant-loop-left : goal.invariant-loop-left
 invariant-loop-left g l =
     (l.left ≤ length l.row)
-    × Row g.S.Sink.taking (g.T.Write.grammar.spelled der) g.T.Write.grammar.same
+    × Row g.S.Sink.taking (g.T.Write.grammar.spelled der) g.T.Write.grammar.assembled g.T.Write.grammar.same
     (map (g.T.Write.value l.kept) (drop l.left l.row)) l.kept l.fn.sink l.sink
 
 abbrev pub decreases-loop-left : goal.decreases-loop-left

@@ -5,7 +5,7 @@ use Rattle.cms_fields.proofs.primitive.ConstrainedWrite.emit.Goals as goal
 
 pub returns-clause-ok : goal.returns-clause-ok
 returns-clause-ok g c =
-    on_ok_weaker c.emit.result (alike_emits (where_alike g.C.Constraint.is _ (keeps_octets g.C.Constraint.is _ c.requires.1))) c.emit.ensures.ok
+    on_ok_weaker c.emit.result (alike_emits (where_alike g.C.Constraint.is _ (keeps_octets g.C.Constraint.is _ c.requires.1)) (λ m h. h)) c.emit.ensures.ok
 
 pub returns-clause-stops : goal.returns-clause-stops
 returns-clause-stops g c =

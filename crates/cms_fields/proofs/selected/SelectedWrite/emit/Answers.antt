@@ -14,7 +14,7 @@ returns-in_err-emit-clause-stops g c =
 pub returns-clause-ok : goal.returns-clause-ok
 returns-clause-ok g c =
     let due = shown_is_selected (g.S.Selector.test _) _ _ c.args.self.now.1 c.requires.1 in
-    on_ok_weaker c.emit-2.result (λ q. alike_emits (by_value_alike g.S.Selector.test _ _ _ _ c.args.self.now.1 due)
+    on_ok_weaker c.emit-2.result (λ q. alike_emits (by_value_alike g.S.Selector.test _ _ _ _ c.args.self.now.1 due) (λ m h. h)
     (then_emits c.law.ensures c.in_ok-emit.ensures.ok q)) c.emit-2.ensures.ok
 
 pub returns-clause-stops : goal.returns-clause-stops

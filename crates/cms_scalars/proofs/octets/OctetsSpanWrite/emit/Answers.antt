@@ -4,7 +4,7 @@ use Rattle.cms_scalars.proofs.Strings.{string_alike}
 use Rattle.cms_scalars.proofs.octets.OctetsSpanWrite.emit.Goals as goal
 
 pub returns-clause-ok : goal.returns-clause-ok
-returns-clause-ok g c = on_ok_weaker c.emit.result (alike_emits (string_alike g.row.ID)) c.emit.ensures.ok
+returns-clause-ok g c = on_ok_weaker c.emit.result (alike_emits (string_alike g.row.ID) (λ m h. h)) c.emit.ensures.ok
 
 pub returns-clause-stops : goal.returns-clause-stops
 returns-clause-stops g c =

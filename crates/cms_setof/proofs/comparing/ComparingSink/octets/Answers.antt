@@ -2,6 +2,8 @@ use Rattle.std.proofs.Common.{◌≡◌, ◌+◌, ◌-◌, ◌++◌, length, dro
 use Rattle.std.proofs.Math.Seq.{take-add}
 use Rattle.std.proofs.lemmas.Result.{on_ok_weaker}
 use Rattle.std.proofs.lemmas.Slice.Eq.{bytes_eq-Decides}
+use Rattle.cms_fields.specs.Assembly.{made}
+use Rattle.cms_fields.proofs.AssemblyLaws.{octets_marked, length_marked}
 use Rattle.cms_setof.proofs.comparing.ComparingSink.octets.Goals as goal
 
 pub returns-then-eq-clause-ok : goal.returns-then-eq-clause-ok
@@ -16,4 +18,4 @@ returns-then-eq-clause-ok c =
     let e : take m rest ≡ c.args.octets.now = ap (λ j. take j rest) (sym n)
     ∙ (bytes_eq-Decides (take (at - s) rest) c.args.octets.now).0 (sym c.eq.ensures ∙ c.if-eq.true) in
     let all = ap (λ j. take j k) whole ∙ (take-add s m k ∙ ap (λ z. take s k ++ z) e) in
-    on_ok_weaker c.go_back.result (λ h. (all ∙ ap (λ j. take j k ++ c.args.octets.now) (sym h.0), h.1)) c.go_back.ensures
+    rw (octets_marked made c.args.octets.now, length_marked made c.args.octets.now) (on_ok_weaker c.go_back.result (λ h. (all ∙ ap (λ j. take j k ++ c.args.octets.now) (sym h.0), h.1)) c.go_back.ensures)

@@ -8,7 +8,7 @@ use Rattle.cms_setof.proofs.non_empty.NonEmptySetOfWrite.emit.Goals as goal
 pub returns-clause-ok : goal.returns-clause-ok
 returns-clause-ok g c =
     on_ok_weaker c.emit.result (alike_emits (where_alike (λ vs. vs ≢ []) _
-    (keeps_member (c.law.ensures.field c.requires.0.0).by_der.equivalence _ c.requires.1))) c.emit.ensures.ok
+    (keeps_member (c.law.ensures.field c.requires.0.0).by_der.equivalence _ c.requires.1)) (λ m h. h)) c.emit.ensures.ok
 
 pub returns-clause-stops : goal.returns-clause-stops
 returns-clause-stops g c =
