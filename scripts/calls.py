@@ -35,6 +35,7 @@ JAVA_AND_RUST = {  # each type of the header, as it is declared there
     "struct cms_canon_digest_asked *": ("int[]", "*mut DigestAsked"),
     "const struct cms_canon_digest *": ("int[]", "*const Digest"),
     "struct cms_canon_row *": ("long[]", "*mut Row"),
+    "struct cms_canon_piece *": ("long[]", "*mut u64"),
 }
 
 

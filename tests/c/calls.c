@@ -1,6 +1,7 @@
 /*
  * Checks of the calls of the library for C that the vectors do not make: rooms that are too small, messages one after another,
- * extents, octets, findings and rows around the output, lengths of 0, limits, paths, parts, fields, digests, and four threads at once.
+ * extents, octets, findings, rows and pieces around the output, lengths of 0, limits, paths, parts, fields, digests, and four threads
+ * at once.
  * Prints a line for each failed check, and how many passed and failed.
  */
 #define CMS_CANON_DEPRECATED /* cms_canon_part is checked as long as it is there */
@@ -325,6 +326,41 @@ static void check_fields(void)
     check("a limit of rows above 2^40", outcome.status == CMS_CANON_DONE && outcome.octets == ROWS);
 }
 
+/* The pieces of its DER: of a header only what is not the same in the message is made. */
+static const struct cms_canon_piece pieces_of_message[] = {{0, 2, 1},   {2, 12, 0}, {14, 3, 1}, {17, 6, 0}, {23, 1, 1},
+                                                           {24, 12, 0}, {36, 3, 1}, {41, 2, 0}, {45, 1, 0}, {42, 2, 1}};
+enum { PIECES = sizeof pieces_of_message / sizeof pieces_of_message[0] };
+
+static void check_pieces(void)
+{
+    struct cms_canon_piece pieces[PIECES + 3], guards[PIECES + 3], whole = {0, sizeof der, 0};
+    struct cms_canon_outcome outcome;
+    memset(guards, GUARD, sizeof guards);
+    for (size_t room = 0; room <= PIECES + 3; room++) {
+        memcpy(pieces, guards, sizeof pieces);
+        cms_canon_pieces(message, sizeof message, CMS_CANON_LIMIT, pieces, room, &outcome);
+        bool fits = room >= PIECES;
+        check("status by the room for pieces", outcome.status == (fits ? CMS_CANON_DONE : CMS_CANON_ROOM_TOO_SMALL));
+        check("how many pieces", outcome.octets == PIECES && outcome.reason == 0 && outcome.at == 0 && outcome.name[0] == 0);
+        check("the pieces", !fits || memcmp(pieces, pieces_of_message, sizeof pieces_of_message) == 0);
+        check("pieces that are not written", memcmp(pieces + (fits ? PIECES : 0), guards, (fits ? 3 : PIECES + 3) * sizeof *guards) == 0);
+    }
+    size_t at = 0;
+    for (const struct cms_canon_piece *piece = pieces_of_message; piece < pieces_of_message + PIECES; piece++) {
+        check("a piece of the DER", memcmp(der + at, (piece->made ? der : message) + piece->place, piece->length) == 0);
+        at += piece->length;
+    }
+    check("all of the DER", at == sizeof der);
+    cms_canon_pieces(der, sizeof der, CMS_CANON_LIMIT, pieces, PIECES, &outcome);
+    check("DER is one piece", outcome.status == CMS_CANON_DONE && outcome.octets == 1 && memcmp(pieces, &whole, sizeof whole) == 0);
+    memcpy(pieces, guards, sizeof pieces);
+    cms_canon_pieces(message, 0, CMS_CANON_LIMIT, pieces, PIECES, &outcome);
+    check("pieces of no octets", outcome.status == CMS_CANON_REFUSED && outcome.reason == 1 && outcome.at == 0 && outcome.octets == 0);
+    cms_canon_pieces(message, sizeof message, sizeof message - 1, pieces, PIECES, &outcome);
+    check("a limit of pieces", outcome.status == CMS_CANON_REFUSED && outcome.reason == 2 && strcmp(outcome.name, "TooLarge") == 0);
+    check("no pieces on a refusal", memcmp(pieces, guards, sizeof guards) == 0);
+}
+
 /* A TSTInfo without optional fields, its genTime at the beginning of 2026. */
 static const uint8_t tst_info[] = {0x30, 0x27, 0x02, 0x01, 0x01, 0x06, 0x03, 0x2a, 0x03, 0x04, 0x30, 0x09, 0x30, 0x05,
                                    0x06, 0x03, 0x2a, 0x03, 0x04, 0x04, 0x00, 0x02, 0x01, 0x05, 0x18, 0x0f, '2',  '0',
@@ -536,6 +572,7 @@ int main(void)
     check_digests_asked();
     check_digests();
     check_fields();
+    check_pieces();
     check_tst_info();
     check_comparisons();
     check_listing();

@@ -62,6 +62,7 @@ _TYPES = {  # of the arguments, as the header has them
     "struct cms_canon_digest_asked *": ctypes.c_void_p,
     "struct cms_canon_finding *": ctypes.c_void_p,
     "struct cms_canon_row *": ctypes.c_void_p,
+    "struct cms_canon_piece *": ctypes.c_void_p,
     "struct cms_canon_outcome *": ctypes.POINTER(Outcome),
     "struct cms_canon_many *": ctypes.POINTER(Many),
     "struct cms_canon_extent *": ctypes.POINTER(Extent),

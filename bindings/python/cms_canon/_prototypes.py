@@ -103,4 +103,12 @@ PROTOTYPES = {
         "size_t",  # fields_room
         "struct cms_canon_outcome *",  # outcome
     ),
+    "cms_canon_pieces": (
+        "const uint8_t *",  # input
+        "size_t",  # input_length
+        "uint64_t",  # limit
+        "struct cms_canon_piece *",  # pieces
+        "size_t",  # pieces_room
+        "struct cms_canon_outcome *",  # outcome
+    ),
 }

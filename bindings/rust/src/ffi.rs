@@ -98,6 +98,9 @@ extern "C" {
     fn cms_canon_tst_info_fields(
         content: *const u8, content_length: usize, fields: *mut Row, fields_room: usize, outcome: *mut Outcome,
     );
+    fn cms_canon_pieces(
+        input: *const u8, input_length: usize, limit: u64, pieces: *mut u64, pieces_room: usize, outcome: *mut Outcome,
+    );
     // The end of the calls.
 }
 

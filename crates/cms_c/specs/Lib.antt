@@ -1,4 +1,5 @@
 pub mod Calls
+pub mod Pieces
 pub mod Digests
 pub mod Extents
 pub mod Many

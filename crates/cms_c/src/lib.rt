@@ -16,6 +16,7 @@ mod given;
 mod many;
 mod outcome;
 mod part;
+mod pieces;
 mod same;
 mod show;
 
@@ -28,5 +29,6 @@ pub use fields::{cms_canon_fields, cms_canon_tst_info_fields};
 pub use many::{Many, cms_canon_convert_many};
 pub use outcome::{NAME_LEN, Outcome};
 pub use part::cms_canon_part;
+pub use pieces::{Piece, cms_canon_pieces};
 pub use same::cms_canon_same;
 pub use show::cms_canon_show;

@@ -48,6 +48,8 @@ mod messages;
 #[cfg(test)]
 mod parts;
 #[cfg(test)]
+mod pieces;
+#[cfg(test)]
 mod records;
 #[cfg(test)]
 mod rests;

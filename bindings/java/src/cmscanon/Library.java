@@ -85,6 +85,9 @@ final class Library {
 
     static native void cms_canon_tst_info_fields(
             byte[] content, long contentLength, long[] fields, long fieldsRoom, long[] outcome);
+
+    static native void cms_canon_pieces(
+            byte[] input, long inputLength, long limit, long[] pieces, long piecesRoom, long[] outcome);
     // The end of the calls.
 
     /** Calls with room for so many octets, and once more if they are too few. */

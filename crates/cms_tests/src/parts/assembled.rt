@@ -7,7 +7,7 @@ use crate::parts::sources::LIMIT;
 use cms_fields::{Field, Last, Opaque, Tagged, Then};
 use cms_sample::TextSpan;
 use cms_scalars::{Boolean, OctetsSpan};
-use cms_setof::{Piece, SetOf, pieces};
+use cms_setof::{Piece, SetOf, absorbed, pieces};
 use std::alloc::{AllocError, Global};
 use std::process::Abort;
 use std::test::Fail;
@@ -79,4 +79,21 @@ fn strings_copied(rt: HostRuntime) -> Result<(), Fail> {
         "300b0101012406040161040162",
         &[(MADE, 7), (9, 10), (12, 13)],
     )
+}
+
+/// What is made is copied if it is the same right before what is copied next, or else right after what is
+/// copied before it.
+#[test]
+fn headers_copied(rt: HostRuntime) -> Result<(), Fail> {
+    let octets = hex::decode(rt.alloc(), "31800401620401610000")?;
+    let (field, kept) = received::<Texts>(rt.alloc(), &octets, 1, LIMIT)?;
+    let made = pieces(&field, rt.alloc(), &kept)?;
+    let came = absorbed(made, &kept, rt.alloc())?;
+    assert_same(
+        &rt,
+        shown(rt.alloc(), &came)?.as_slice(),
+        &[(MADE, 2), (5, 8), (2, 5)],
+        "members that change places",
+    );
+    Ok(())
 }
