@@ -14,30 +14,27 @@ requests, responses and tokens. Of each it is checked that
 In the messages made at random each kind of row has to occur, and each field that may be absent has to be absent somewhere.
 """
 
-import ctypes
 import json
-import struct
 import sys
 from collections import Counter, namedtuple
 from datetime import datetime
 from random import Random
-from typing import NamedTuple
 
 import countersignatures
 import generated_messages
 import openssl_tokens
 import pytest
 import real_messages
+from c_library import LIMIT, Library
 from elements import ID_CT_TST_INFO, element as written, message as message_of, oid, token_around
 from generated_messages import SEED, OctetString, Primitive, Sequence, TrueOrAbsent, any_opaque, sometimes
-from programs import RELEASE, VECTORS
+from programs import VECTORS
 from tst_model import tst_info_of
-from walk import KINDS, TST_INFO, Row, countersignatures_of, fields_of, fields_of_tst_info, parts_of
+from walk import KINDS, TST_INFO, countersignatures_of, fields_of, fields_of_tst_info, parts_of
 
 MESSAGES = 20_000
 SPELLINGS = 10  # of each message made at random, the last one in DER
 MOST_SIGNERS = 10  # of a message whose parts are asked for: each call reads the whole message
-LIMIT = 1 << 28
 NO_CONTENT, NO_PART, NO_TST_INFO = 103, 104, 105
 EXACT = (1 << 53) - 1  # the largest whole number that to_json writes as one
 
@@ -51,76 +48,6 @@ OPTIONAL = {  # what may be absent, by the row that is there all the same
     "ACCURACY": ("SECONDS", "MILLIS", "MICROS"),
 }
 seen = Counter()  # kinds of rows that a message has, and pairs of one that it has and one that it has not
-
-ROW = struct.Struct("=QQII")
-UNTOUCHED = b"\xa5"
-
-
-class Outcome(ctypes.Structure):
-    _fields_ = [
-        ("status", ctypes.c_uint32), ("reason", ctypes.c_uint32), ("at", ctypes.c_uint64), ("octets", ctypes.c_uint64),
-        ("name", ctypes.c_char * 24),
-    ]
-
-
-class Answer(NamedTuple):
-    status: int
-    reason: int
-    at: int
-    octets: int
-    name: str
-    output: bytes
-
-    @property
-    def refusal(self):
-        return self.status, self.reason, self.at, self.name
-
-    @property
-    def rows(self):
-        return [Row(*it) for it in ROW.iter_unpack(self.output)]
-
-
-def words_of(octets):
-    return octets, ctypes.c_size_t(len(octets))
-
-
-def path_of(numbers):
-    return (ctypes.c_uint64 * len(numbers))(*numbers), ctypes.c_size_t(len(numbers))
-
-
-class Library:
-    def __init__(self):
-        self.calls = ctypes.CDLL(str(RELEASE / "libcms_canon.so"))
-
-    def asked(self, name, room, *words, size=1):
-        """Returns what the library writes, for which there is room for so many items of this size. Nothing else may be written."""
-        outcome, output = Outcome(), bytearray(UNTOUCHED * (room * size + ROW.size))
-        address = ctypes.c_void_p(ctypes.addressof(ctypes.c_char.from_buffer(output)))
-        getattr(self.calls, f"cms_canon_{name}")(*words, address, ctypes.c_size_t(room), ctypes.byref(outcome))
-        count = outcome.octets * size if outcome.status == 0 else 0
-        assert output.count(UNTOUCHED, count) == len(output) - count, f"{name} wrote more than it says"
-        said = outcome.status, outcome.reason, outcome.at, outcome.octets, outcome.name.decode()
-        return Answer(*said, bytes(output[:count]))
-
-    def convert(self, octets, limit=LIMIT):
-        return self.asked("convert", len(octets) + 64, *words_of(octets), ctypes.c_uint64(limit))
-
-    def fields(self, octets, limit=LIMIT, room=None):
-        room = len(octets) // 2 if room is None else room
-        return self.asked("fields", room, *words_of(octets), ctypes.c_uint64(limit), size=ROW.size)
-
-    def tst_info_fields(self, octets, room=None):
-        return self.asked("tst_info_fields", len(octets) // 2 if room is None else room, *words_of(octets), size=ROW.size)
-
-    def cover(self, octets, path, content):
-        given = content or b""
-        words = *words_of(octets), *path_of(path), *words_of(given), ctypes.c_bool(content is not None), ctypes.c_uint64(LIMIT)
-        return self.asked("cover", len(octets) + len(given), *words)
-
-    def part(self, octets, path, number):
-        words = *words_of(octets), *path_of(path), ctypes.c_uint32(number), ctypes.c_uint64(LIMIT)
-        return self.asked("part", len(octets), *words)
-
 
 Asker = namedtuple("Asker", "library package")
 

@@ -1,0 +1,131 @@
+"""Asks the released library of which pieces of a message its DER is put together, and compares them with those of assembly.py, a reader of its own.
+
+The messages are all octets in the vectors, those that openssl, gpgsm and BouncyCastle make, and MESSAGES made at random, ten spellings in BER
+of each value. Of each it is checked that
+
+- a message that is refused is refused as `cms_canon_convert` refuses it;
+- the pieces are those of the other reader, with just enough room and with more; with less room none is written;
+- they are what `cms_canon_convert` writes, one after another; of DER there is one, and it is the message.
+
+All ways in which DER differs from what was read have to occur.
+"""
+
+import json
+from collections import Counter
+from random import Random
+
+import countersignatures
+import generated_messages
+import openssl_tokens
+import pytest
+import real_messages
+from assembly import octets_of, pieces_of
+from c_library import Library
+from programs import VECTORS
+from tally import differing
+
+MESSAGES = 20_000
+SPELLINGS = 10  # of each message made at random, the last one in DER
+NO_ROOM = 6
+
+
+@pytest.fixture(scope="module")
+def calls():
+    return Library()
+
+
+def due_of(pieces):
+    """Returns pieces as the library has them: the place of a made one is that in the DER."""
+    due, at = [], 0
+    for piece in pieces:
+        place, length, is_made = (at, len(piece), True) if isinstance(piece, bytes) else (piece[0], piece[1] - piece[0], False)
+        due.append((place, length, is_made))
+        at += length
+    return due
+
+
+def complaints_of(calls, octets):
+    converted, came = calls.convert(octets), calls.pieces(octets)
+    if converted.status != 0:
+        yield "refused", converted.refusal, came.refusal
+        return
+    short = len(octets) - 1
+    yield "under a limit", calls.convert(octets, short).refusal, calls.pieces(octets, short).refusal
+    pieces = pieces_of(octets)
+    due = due_of(pieces)
+    yield "the DER of the other reader", converted.output, octets_of(octets, pieces)
+    yield "pieces", (0, due), (came.status, came.pieces)
+    if converted.output == octets:
+        yield "DER", [(0, len(octets), False)], came.pieces
+    for room in sorted({0, len(due) // 2, len(due) - 1}):
+        few = calls.pieces(octets, room=room)
+        yield f"room for {room} of {len(due)}", (NO_ROOM, len(due)), (few.status, few.octets)
+    yield "just enough room", due, calls.pieces(octets, room=len(due)).pieces
+
+
+def judge(tally, calls, name, octets):
+    complaint = next((f"{what}: {it}" for what, due, came in complaints_of(calls, octets) if (it := differing(due, came))), "")
+    tally.count(name, complaint and f"{complaint[:1000]}, of {octets[:500].hex()}")
+
+
+def octets_in(value):
+    if isinstance(value, str):
+        try:
+            yield bytes.fromhex(value)
+        except ValueError:
+            pass
+    elif isinstance(value, (dict, list)):
+        for it in value.values() if isinstance(value, dict) else value:
+            yield from octets_in(it)
+
+
+def test_vectors(calls, tally):
+    found = {octets for file in sorted(VECTORS.glob("*.json")) for octets in octets_in(json.loads(file.read_text()))} - {b""}
+    for octets in sorted(found):
+        judge(tally, calls, "vector", octets)
+
+
+def test_tools(calls, tools, tally):
+    """What openssl and gpgsm make."""
+    for message in real_messages.all_messages(tools, tally):
+        judge(tally, calls, message.name, message.octets)
+    for name, token in openssl_tokens.make_all(tools).items():
+        for kind in ("request", "response", "token"):
+            judge(tally, calls, f"{name}, {kind}", getattr(token, kind))
+
+
+def test_countersignatures(calls, tools, tally):
+    """What BouncyCastle makes, and other spellings of it."""
+    if missing := countersignatures.missing_for_java():
+        return tally.skip("BouncyCastle", f"{', '.join(missing)} not installed")
+    countersignatures.make_keys(tools)
+    countersignatures.build_java(tools)
+    random, plans = Random(generated_messages.SEED), [*countersignatures.plans()]
+    made = countersignatures.bouncy_castle(tools, "make", [f"{form} {signers}" for _, form, signers in plans])
+    for (name, form, _), octets in zip(plans, map(bytes.fromhex, made)):
+        for given in (octets, *countersignatures.spellings_of(octets, random)):
+            judge(tally, calls, f"{name}, {form}", given)
+
+
+def kinds_in(octets, pieces):
+    """Gives what happens in the pieces: places in the message that go back, are left out, or are long, and what is made."""
+    places = [it for it in pieces if isinstance(it, tuple)]
+    for before, after in zip(places, places[1:]):
+        yield "moved" if after[0] < before[1] else "left out"
+    for made in (it for it in pieces if isinstance(it, bytes)):
+        yield "TRUE" if made.endswith(b"\x01\x01\xff") else "a header" if len(made) < 5 else "headers"
+
+
+def test_generated(calls, tally, monkeypatch):
+    monkeypatch.setattr(generated_messages, "LONG_CONTENT", 5_000)
+    random, seen = generated_messages.beginning(), Counter()
+    makers = [generated_messages.signed_message] * 2 + [generated_messages.request, generated_messages.response]
+    for index in range(MESSAGES // SPELLINGS):
+        message, *_ = random.choice(makers)(random)
+        spellings = [message.ber(random) for _ in range(SPELLINGS - 1)]
+        for given in (*spellings, message.der()):
+            judge(tally, calls, f"message {index}", given)
+            seen.update(kinds_in(given, pieces_of(given)) if calls.convert(given).status == 0 else ())
+        judge(tally, calls, f"message {index}, damaged", generated_messages.damaged(random, spellings[0]))
+    for kind in ("moved", "left out", "TRUE", "a header", "headers"):
+        tally.count(f"{kind} occurs", "" if seen[kind] else "in no message")
