@@ -9,17 +9,17 @@ use Rattle.cms_canon.specs.Kinds.{message}
 use Rattle.cms_canon.specs.Messages.{IsDerOf}
 use Rattle.cms_canon.specs.Whole.{Whole}
 
---- `IsMadeUpOf m ps`: the pieces `ps`, of octets of `m` and of made ones, are DER of `m`
---- | all that the grammar of a message copies is copied in them too
+--- `IsMadeUpOf m ps`: the pieces `ps`, of the octets of `m` and of made ones, are DER of `m`
+--- | all is copied that the grammar of a message assembles of copied octets, and maybe more
 pub record IsMadeUpOf (m : Whole) (ps : List Piece) : Type 0 where
   --- `der`: their octets are DER of the message
   pub der : IsDerOf m.value (unmarked (marked_pieces m.octets ps))
-  --- `assembly`, `assembled`: such DER as the grammar assembles it
+  --- `assembly`, `assembled`: how the grammar assembles such DER
   pub assembly : List Marked
   pub assembled : IsAssembled message.assembled message.same m.value assembly
   --- `copies`: the pieces have the same octets, and copy all that is copied there
   pub copies : CopiesMore assembly (marked_pieces m.octets ps)
-  --- `have`: each has octets; what is copied lies in the octets of `m`
+  --- `have`: each has octets, and what is copied lies in the octets of `m`
   pub have : All (HasOctets m.octets) ps
-  --- `joined`: no piece goes on where the one before it ends
+  --- `joined`: no two neighbours could be one piece
   pub joined : AreJoined ps

@@ -14,7 +14,7 @@ use std::alloc::{AllocError, Global};
 
 /// The pieces with more that is copied: of a made one, the octets at its end that lie in `kept` right
 /// before what is copied next, and then those at its beginning that lie there right after what is copied
-/// before it; so a header is copied too if it is the same in the input. An error means out of memory.
+/// before it. A header is among them if it is the same in the input. An error means out of memory.
 pub fn absorbed(pieces: Vec<Piece>, kept: &[u8], alloc: Global) -> Result<Vec<Piece>, AllocError>
     ensures copies { IfOk result (λ v.
         CopiesMore (marked_pieces kept.now pieces.items) (marked_pieces kept.now v.items)) }
@@ -25,7 +25,7 @@ pub fn absorbed(pieces: Vec<Piece>, kept: &[u8], alloc: Global) -> Result<Vec<Pi
     absorbed_after(stack, kept, alloc)
 }
 
-/// The pieces, of which the last comes first in the result, with more copied before what is copied. An
+/// The pieces, of which the last comes first now, with more that is copied before what is copied. An
 /// error means out of memory.
 fn absorbed_before(pieces: Vec<Piece>, kept: &[u8], alloc: Global) -> Result<Vec<Piece>, AllocError>
     ensures { IfOk result (λ v.
@@ -39,8 +39,8 @@ fn absorbed_before(pieces: Vec<Piece>, kept: &[u8], alloc: Global) -> Result<Vec
     Ok(stack)
 }
 
-/// The pieces of which the last comes first, in their order, with more copied after what is copied. An
-/// error means out of memory.
+/// The pieces of which the last comes first, in their order, with more that is copied after what is
+/// copied. An error means out of memory.
 fn absorbed_after(pieces: Vec<Piece>, kept: &[u8], alloc: Global) -> Result<Vec<Piece>, AllocError>
     ensures copies { IfOk result (λ v.
         CopiesMore (stacked kept.now pieces.items) (marked_pieces kept.now v.items)) }
