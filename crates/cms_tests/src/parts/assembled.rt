@@ -53,6 +53,22 @@ fn assert_assembled<T: Field>(
     Ok(())
 }
 
+/// Asserts the same if what can be copied beside copied octets is copied too.
+fn assert_absorbed<T: Field>(
+    rt: &(impl Abort + AllocGlobal),
+    input: &str,
+    wanted: Shown,
+) -> Result<(), Fail>
+    requires { T.grammar.is_field ≡ true }
+{
+    let octets = hex::decode(rt.alloc(), input)?;
+    let (field, kept) = received::<T>(rt.alloc(), &octets, 1, LIMIT)?;
+    let made = pieces(&field, rt.alloc(), &kept)?;
+    let came = shown(rt.alloc(), &absorbed(made, &kept, rt.alloc())?)?;
+    assert_same(rt, came.as_slice(), wanted, input);
+    Ok(())
+}
+
 /// A header is made, and contents are copied. Members go where their octets do.
 #[test]
 fn headers_made(rt: HostRuntime) -> Result<(), Fail> {
@@ -85,15 +101,5 @@ fn strings_copied(rt: HostRuntime) -> Result<(), Fail> {
 /// copied before it.
 #[test]
 fn headers_copied(rt: HostRuntime) -> Result<(), Fail> {
-    let octets = hex::decode(rt.alloc(), "31800401620401610000")?;
-    let (field, kept) = received::<Texts>(rt.alloc(), &octets, 1, LIMIT)?;
-    let made = pieces(&field, rt.alloc(), &kept)?;
-    let came = absorbed(made, &kept, rt.alloc())?;
-    assert_same(
-        &rt,
-        shown(rt.alloc(), &came)?.as_slice(),
-        &[(MADE, 2), (5, 8), (2, 5)],
-        "members that change places",
-    );
-    Ok(())
+    assert_absorbed::<Texts>(&rt, "31800401620401610000", &[(MADE, 2), (5, 8), (2, 5)])
 }
