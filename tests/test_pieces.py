@@ -87,9 +87,10 @@ def test_vectors(calls, tally):
 
 def test_tools(calls, tools, tally):
     """What openssl and gpgsm make."""
+    made = openssl_tokens.make_all(tools)
     for message in real_messages.all_messages(tools, tally):
         judge(tally, calls, message.name, message.octets)
-    for name, token in openssl_tokens.make_all(tools).items():
+    for name, token in made.items():
         for kind in ("request", "response", "token"):
             judge(tally, calls, f"{name}, {kind}", getattr(token, kind))
 
