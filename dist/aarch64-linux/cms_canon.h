@@ -23,8 +23,9 @@
  * writes. cms_canon_fields says with one reading where all fields of all signers are; a verifier that asks for the cover of each
  * signer in turn takes time in proportion to the square of their number.
  *
- * No pointer may be NULL, even with a length of 0. `output`, `findings`, `fields`, `asked`, `outcome`, `many` and `extent` must not overlap
- * one another or an input. A call must not be made from a signal handler, or from the forked child of a process with several threads.
+ * No pointer may be NULL, even with a length of 0. `output`, `findings`, `fields`, `pieces`, `asked`, `outcome`, `many` and `extent`
+ * must not overlap one another or an input. A call must not be made from a signal handler, or from the forked child of a process
+ * with several threads.
  */
 #ifndef CMS_CANON_H
 #define CMS_CANON_H
@@ -437,6 +438,30 @@ void cms_canon_fields(const uint8_t *input, size_t input_length, uint64_t limit,
  */
 void cms_canon_tst_info_fields(const uint8_t *content, size_t content_length,
                                struct cms_canon_row *fields, size_t fields_room, struct cms_canon_outcome *outcome);
+
+/* A piece of the DER of a message. */
+struct cms_canon_piece {
+    uint64_t place;  /* where it begins, from 0: in the input if it is copied, in the DER if it is made */
+    uint64_t length; /* how many octets it has, at least 1 */
+    uint64_t made;   /* 1 if its octets are made, 0 if they are copied from the input */
+};
+
+/*
+ * Writes of which pieces the DER of the message in `input` is put together, to the array `pieces`, which has room for
+ * `pieces_room` of them. `octets` of the outcome says how many pieces there are, and not octets. Their octets, one piece after
+ * another, are the DER that cms_canon_convert writes; so this writes it to a file, from `input` and that DER:
+ *
+ *     for (const struct cms_canon_piece *piece = pieces; piece < pieces + outcome.octets; piece++)
+ *         fwrite((piece->made ? der : input) + piece->place, 1, piece->length, file);
+ *
+ * Only headers, BOOLEAN and BIT STRINGs with named bits are made, if they are not the same in the input beside what is copied; all
+ * else is copied from the input. No piece goes on where the one before it ends: copied octets of the input that follow each
+ * other in both are one piece, and so are made octets.
+ *
+ * The message and its DER may have at most `limit` octets each.
+ */
+void cms_canon_pieces(const uint8_t *input, size_t input_length, uint64_t limit,
+                      struct cms_canon_piece *pieces, size_t pieces_room, struct cms_canon_outcome *outcome);
 
 #ifdef __cplusplus
 }
