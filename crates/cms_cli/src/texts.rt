@@ -97,8 +97,9 @@ number, from 0, of the message that the line is about:
   message 1: write fault after 3
 The octets are counted from the first one of that message. The messages before
 it were written, and nothing of it, except these octets if writing failed.
-Nothing after it was written. If out of memory, the only line is `out of memory`.
-If each file of the folder is one message, message 1 is the second file:
+Nothing after it was written. If there is no memory, the only line is
+`out of memory`. If each file of the folder is one message, message 1 is the
+second file:
 `ls folder/*.p7s | sed -n 2p` prints its name. A newline after a message is
 read as the beginning of the next one, which is then refused.
 
@@ -247,7 +248,7 @@ With --content, all that follows the message is its detached content. It is
 used only if the message has no content of its own. With --data, it is the data
 that were time-stamped. If nothing follows the message, these are empty. Only
 one of the two options can be given. More than 268,435,456 octets are refused
-with E2: `cms-canon-archive check FILE DOCUMENT` takes a document of any length.
+with E2: `cms-canon-archive check FILE DOCUMENT` takes documents of any length.
 
 Of a response, the token is checked, and whether the status goes with it. Of a
 request, only the imprint is checked, with --data.
