@@ -332,10 +332,11 @@ def test_changes(home, make):
     files = {f"{it}.p7s": make.cms(it.encode()) for it in "abcdefgh"}
     write_files(folder, {**files, **{it: it.encode() for it in "abcdefgh"}, "sealed.zip": zipped({"in.p7m": make.cms(b"in", "-nodetach")}), "old.txt": b"old"})
     command(home, "index", folder, "--store", "changing.db")
+    time.sleep(1.1)  # what is of the second of a report is in the next one too
     first = judge_page("the first page", command(home, *words))
     count_same("at first, all is new", [row[1] for row in first.rows("changes")], [19, 0, 0, 0])
     count_if("since the index", "since the last index began" in first.texts["since"] and first.texts["worse"] == "No message", first.texts)
-    time.sleep(1.1)  # what is of the second of a report is in the next one too
+    time.sleep(1.1)
     count_same("nothing changed", [row[1] for row in judge_page("the second page", command(home, *words)).rows("changes")], [0, 0, 0, 0])
     time.sleep(1.1)
     write_files(folder, {**{it: b"another one" for it in "abcde"}, "new.txt": b"new", "sealed.zip": zipped({"in.p7m": b"0", "new.txt": b"new"})})
