@@ -28,7 +28,7 @@ import real_messages
 from c_library import LIMIT, Library
 from elements import ID_CT_TST_INFO, element as written, message as message_of, oid, token_around
 from generated_messages import SEED, OctetString, Primitive, Sequence, TrueOrAbsent, any_opaque, sometimes
-from programs import VECTORS
+from programs import octets_in_vectors
 from tst_model import tst_info_of
 from walk import KINDS, TST_INFO, countersignatures_of, fields_of, fields_of_tst_info, parts_of
 
@@ -230,21 +230,9 @@ def judge(tally, asker, name, octets, detached=None):
     tally.count(name, complaint and f"{complaint}, of {octets[:500].hex()}")
 
 
-def octets_in(value):
-    if isinstance(value, str):
-        try:
-            yield bytes.fromhex(value)
-        except ValueError:
-            pass
-    elif isinstance(value, (dict, list)):
-        for it in value.values() if isinstance(value, dict) else value:
-            yield from octets_in(it)
-
-
 def test_vectors(asker, tally):
     """All octets in the vectors, as a message and as the content of a token."""
-    found = {octets for file in sorted(VECTORS.glob("*.json")) for octets in octets_in(json.loads(file.read_text()))} - {b""}
-    for octets in sorted(found):
+    for octets in octets_in_vectors():
         judge(tally, asker, "vector", octets)
         judge(tally, asker, "vector in a token", token_around(octets))
 

@@ -10,7 +10,6 @@ of each value. Of each it is checked that
 All ways in which DER differs from what was read have to occur.
 """
 
-import json
 from collections import Counter
 from random import Random
 
@@ -21,7 +20,7 @@ import pytest
 import real_messages
 from assembly import octets_of, pieces_of
 from c_library import Library
-from programs import VECTORS
+from programs import octets_in_vectors
 from tally import differing
 
 MESSAGES = 20_000
@@ -68,20 +67,8 @@ def judge(tally, calls, name, octets):
     tally.count(name, complaint and f"{complaint[:1000]}, of {octets[:500].hex()}")
 
 
-def octets_in(value):
-    if isinstance(value, str):
-        try:
-            yield bytes.fromhex(value)
-        except ValueError:
-            pass
-    elif isinstance(value, (dict, list)):
-        for it in value.values() if isinstance(value, dict) else value:
-            yield from octets_in(it)
-
-
 def test_vectors(calls, tally):
-    found = {octets for file in sorted(VECTORS.glob("*.json")) for octets in octets_in(json.loads(file.read_text()))} - {b""}
-    for octets in sorted(found):
+    for octets in octets_in_vectors():
         judge(tally, calls, "vector", octets)
 
 

@@ -177,3 +177,19 @@ def complaint_of_growths(run_without, done, stopped):
         harmless = harmless + 1 if came == done else 0
         if harmless == MOST_NEEDLESS_GROWTHS:
             return f"no growth that was refused gave {awaited}" if awaited else ""
+
+
+def _octets_in(value):
+    if isinstance(value, str):
+        try:
+            yield bytes.fromhex(value)
+        except ValueError:
+            pass
+    elif isinstance(value, (dict, list)):
+        for it in value.values() if isinstance(value, dict) else value:
+            yield from _octets_in(it)
+
+
+def octets_in_vectors():
+    """Returns all octets that the vectors have, whatever they are, but for none at all."""
+    return sorted({octets for file in VECTORS.glob("*.json") for octets in _octets_in(json.loads(file.read_text()))} - {b""})
