@@ -186,6 +186,27 @@ def test_full_disk(home, folder):
     count_same("what changed", [it[:2] for it in listed if it[0] != "gone"], [("changed", "text")])
 
 
+def test_not_there(home, folder, new_store):
+    """A folder and a file that are named and not there are worse than they were, until they are there again; nothing below the folder is dropped."""
+    single = home / "single" / "a.txt.p7s"
+    write_files(single.parent, {name: (folder / name).read_bytes() for name in ("a.txt", single.name)})
+    command(home, "index", folder, single, "--store", new_store)
+    time.sleep(1.1)
+    away = [it.rename(it.with_name(f"{it.name} away")) for it in (folder, single.parent)]
+    said = ended(home, "index", folder, single, "--store", new_store)
+    count_same("what is not there", (said.returncode, said.stderr.count("there is no file or folder of this name")), (1, 2))
+    listed = sorted((it["file"], it["before"], it["after"]) for it in lines_of(home, "changes", "--store", new_store, status=1))
+    count_same("what is worse", listed, sorted([(str(folder), None, "unreadable"), (str(single), "fits", "unreadable")]))
+    count_same("what is not known", ended(home, "check", "--store", new_store).returncode, 3)
+    time.sleep(1.1)
+    for it in away:
+        it.rename(it.with_name(it.name.partition(" ")[0]))
+    command(home, "index", folder, single, "--store", new_store)
+    listed = sorted((it["file"], it["before"], it["after"]) for it in lines_of(home, "changes", "--store", new_store))
+    count_same("what is there again", listed, sorted([(str(folder), "unreadable", "readable"), (str(single), "unreadable", "fits")]))
+    count_same("and nothing else", ended(home, "check", "--store", new_store).returncode, 0)
+
+
 def test_killed_before_its_end(home, folder):
     """What an index found that was killed is not lost to who asks after the next one, and until then it is said that something is yet to be read."""
     write_files(folder, {f"many/{number // 10}/{number}": b"text" for number in range(3000)})
