@@ -27,7 +27,7 @@ from .history import BEGAN, ENDED
 from .spool import Spool
 from .spool import store as store_rows
 from .store import Store
-from .tables import IS_TAKEN, IS_TO_DO, OF_PARTS, PARTS, Now, insertion
+from .tables import IS_TAKEN, IS_TO_DO, OF_PARTS, PARTS, PLACES, Now, insertion
 from .texts import path_text_of, text_of
 from .versions import own_version
 from .watching import Counts, State, Watch, counts_in, state_of
@@ -112,16 +112,20 @@ def _put_top(connection: sa.engine.Connection, top: str, is_folder: bool, how: D
 def _note_missing(connection: sa.engine.Connection, path: str, why: str) -> None:
     """Puts a row in an index that has anything of a folder or a file which is not there. It goes when the folder is read again."""
     folder, name = texts_of_folder(path)[0], text_of(os.path.basename(path))
-    of_file = (PARTS.c.path == texts_of_folder(os.path.dirname(path))[0]) & (PARTS.c.name == name)
-    is_own = ((PARTS.c.path == folder) & (PARTS.c.name == "") & (PARTS.c.chunk == 0)) | of_file
+    above = PARTS.c.path == texts_of_folder(os.path.dirname(path))[0]
+    is_own = ((PARTS.c.path == folder) & (PARTS.c.name == "") & (PARTS.c.chunk == 0)) | (above & (PARTS.c.name == name))
+    places = [(part, "") for part in connection.execute(sa.select(PARTS.c.id).where(is_own)).scalars().all()]
+    if os.path.isdir(os.path.dirname(path)):  # of a file whose folder is there its own row says so
+        is_row = above & (PARTS.c.name == "") & (PLACES.c.file == name) & (PLACES.c.member == "")
+        places += [(part, name) for part in connection.execute(sa.select(PARTS.c.id).select_from(PARTS.join(PLACES, PLACES.c.part == PARTS.c.id)).where(is_row)).scalars().all()]
     entry = Entry(path, 0, 0, 0)
     found = unread(entry, why)
-    for part in connection.execute(sa.select(PARTS.c.id).where(is_own)).scalars().all():
+    for part, file in places:
         connection.execute(sa.update(PARTS).where(PARTS.c.id == part).values(is_stored=True))
         for table in OF_PARTS:
-            connection.execute(sa.delete(table).where(table.c.part == part, table.c.file == ""))
+            connection.execute(sa.delete(table).where(table.c.part == part, table.c.file == file))
         rows = Spool(None)
-        rows.add(part, "", read_of(entry, found, judged(found)))
+        rows.add(part, file, read_of(entry, found, judged(found)))
         store_rows(connection, rows.pieces())
 
 

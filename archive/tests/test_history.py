@@ -207,6 +207,20 @@ def test_not_there(home, folder, new_store):
     count_same("and nothing else", ended(home, "check", "--store", new_store).returncode, 0)
 
 
+def test_file_not_there(home, folder, new_store):
+    """A file that was indexed with its folder, and is named and gone, is no all-clear either."""
+    command(home, "index", folder, "--store", new_store)
+    time.sleep(1.1)
+    octets = (folder / "a.txt.p7s").read_bytes()
+    (folder / "a.txt.p7s").unlink()
+    ran(home, "index", folder / "a.txt.p7s", "--store", new_store, status=1)
+    count_same("what is worse", changes(home, new_store, status=1), [("changed", "a.txt.p7s", "fits", "unreadable")])
+    count_same("what is not known", ended(home, "check", "--store", new_store).returncode, 3)
+    (folder / "a.txt.p7s").write_bytes(octets)
+    command(home, "index", folder, "--store", new_store)
+    count_same("there again", ended(home, "check", "--store", new_store).returncode, 0)
+
+
 def test_killed_before_its_end(home, folder):
     """What an index found that was killed is not lost to who asks after the next one, and until then it is said that something is yet to be read."""
     write_files(folder, {f"many/{number // 10}/{number}": b"text" for number in range(3000)})

@@ -206,7 +206,8 @@ def _in_pem(octets: bytes) -> str:
     if block is None:
         return ""
     name = _in_octets(block.body or b"")
-    return f"{_FIRST_BLOCK}{name}" if name else f"PEM, and the label of its first block is {block.label.decode('ascii')}"
+    label = block.label.decode("ascii").replace(";", ",")  # or what follows it would be a note of its own, and could be a name
+    return f"{_FIRST_BLOCK}{name}" if name else f"PEM, and the label of its first block is {label}"
 
 
 def named(octets: bytes) -> str:
