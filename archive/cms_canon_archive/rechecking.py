@@ -36,8 +36,8 @@ def checked_in(store: Store, folders: Sequence[str], all_of_them: bool, filters:
         again = None if content is None else _judged_again(store, row, content)
         if again is None:
             yield row
-        elif (filters.state is None or again["state"] == filters.state) and (all_of_them or again["outcome"] != Outcome.FITS or again["findings"]):
-            yield again
+        elif again["outcome"] != Outcome.FITS or ((filters.state is None or again["state"] == filters.state) and (all_of_them or again["findings"])):
+            yield again  # even in another state than is asked for, or what is wrong with it would be lost
 
 
 def _judged_again(store: Store, row: Row, content: str) -> Optional[Row]:

@@ -63,6 +63,17 @@ def test_in_a_folder(home, folder, new_store):
     count_same("the index is as it was", states(home, "--store", new_store), without)
 
 
+def test_wrong_signature_elsewhere(home, folder, new_store):
+    """A signature that turns out to be wrong once its content is found is listed, in whatever state it was asked for."""
+    octets = bytearray((folder / "signatures" / "two.p7s").read_bytes())
+    octets[-1] ^= 1
+    (folder / "signatures" / "two.p7s").write_bytes(octets)
+    command(home, "index", folder / "signatures", "--verify", "--store", new_store)
+    words = ("check", "--state", "content not found", "--content-in", folder / "documents", "--store", new_store)
+    came = {Path(it["path"]).name: it["verdict"] for it in lines_of(home, *words, status=1)}
+    count_same("its verdict", came.get("two.p7s"), "wrong")
+
+
 def test_changed_since(home, folder, new_store):
     """A document that has changed since it was indexed is not taken for the one that was signed, nor is its signature said not to fit."""
     command(home, "index", folder, "--store", new_store)
