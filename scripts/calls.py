@@ -36,6 +36,7 @@ JAVA_AND_RUST = {  # each type of the header, as it is declared there
     "const struct cms_canon_digest *": ("int[]", "*const Digest"),
     "struct cms_canon_row *": ("long[]", "*mut Row"),
     "struct cms_canon_piece *": ("long[]", "*mut u64"),
+    "struct cms_canon_change *": ("long[]", "*mut u64"),
 }
 
 

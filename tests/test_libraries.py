@@ -223,7 +223,7 @@ def test_java(java, tally):
 
 
 @needs_java
-@pytest.mark.parametrize("name, options", [("CallsTest", []), ("MessagesTest", []), ("StreamsTest", ["-Xmx64m"])])
+@pytest.mark.parametrize("name, options", [("CallsTest", []), ("MessagesTest", []), ("AttributesTest", []), ("StreamsTest", ["-Xmx64m"])])
 def test_class_of_java(java, tally, name, options):
     judge_class(tally, name, java_words(java, RELEASE, *options))
 

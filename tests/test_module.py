@@ -129,6 +129,49 @@ def by_node(script, given):
     return json.loads(run(["node", "--input-type=module", "--eval", script], given, cwd=WEB))
 
 
+SIDES = """
+import { sidesOf } from "./sides.mjs";
+import { readFileSync } from "node:fs";
+const asked = JSON.parse(readFileSync(0, "utf-8")), octets = it => Buffer.from(it, "hex");
+const plain = ({ shown, more }) => ({ more, shown: shown.map(it => ({ ...it, octets: Buffer.from(it.octets).toString("hex") })) });
+const sides = ([message, der, pieces]) => Object.values(sidesOf(octets(message), octets(der), pieces)).map(plain);
+console.log(JSON.stringify(asked.map(sides)));
+"""
+MOST_PARTS, MOST_OCTETS = 400, 48  # of a side, and of a part, that are shown
+
+
+def pieces_at_random(choose, message):
+    """Returns pieces of a message, which may have octets in common, with octets that are made between them; and the DER that they are."""
+    pieces, der = [], b""
+    for _ in range(choose.randrange(8) if choose.random() < 0.9 else 300):
+        is_made = choose.random() < 0.4
+        begin = choose.randrange(len(message))
+        octets = choose.randbytes(choose.randrange(1, 60)) if is_made else message[begin : begin + choose.randrange(1, 80)]
+        pieces.append({"place": len(der) if is_made else begin, "length": len(octets), "made": is_made})
+        der += octets
+    return pieces, der
+
+
+@needs("node")
+def test_sides(tally):
+    """The parts of each side lie one after another and are all of it; a part that is copied is there on both sides, and has the octets of its piece."""
+    choose = random.Random(79)
+    cases = [(message := choose.randbytes(choose.randrange(1, 400)), *pieces_at_random(choose, message)) for _ in range(300)]
+    came = by_node(SIDES, json.dumps([(message.hex(), der.hex(), pieces) for message, pieces, der in cases]))
+    for number, ((message, pieces, der), sides) in enumerate(zip(cases, came)):
+        copied = [it for it, piece in enumerate(pieces) if not piece["made"]]
+        for name, octets, side in zip(("the message", "the DER"), (message, der), sides):
+            at = 0
+            for part in side["shown"]:
+                wanted = (at, octets[at : at + part["length"]][:MOST_OCTETS].hex())
+                tally.count(f"{number}, {name}, at {at}", differing(wanted, (part["begin"], part["octets"])))
+                at += part["length"]
+            is_cut = side["more"] > 0
+            tally.count(f"{number}, {name}: all of it", differing((len(octets), MOST_PARTS), (at, MOST_PARTS) if not is_cut else (len(octets), len(side["shown"]))))
+            links = [part["number"] for part in side["shown"] if part["kind"] == "copied"]
+            tally.count(f"{number}, {name}: what is copied", differing(copied, sorted(links)) if not is_cut else "")
+
+
 DIGESTS = """
 import { digester } from "./digests.mjs";
 import { readFileSync } from "node:fs";

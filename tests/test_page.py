@@ -30,7 +30,7 @@ EXAMPLE = TOP / "examples" / "message.ber"
 LONG, TOO_LONG = 200 << 20, (256 << 20) + 1  # octets
 WIDTH = 360  # pixels
 LEAST_CONTRAST = 4.5
-LARGEST_PAGE, LARGEST_MODULE = 700_000, 420_000  # octets
+LARGEST_PAGE, LARGEST_MODULE = 700_000, 460_000  # octets
 MOST_SHOWN = 300  # signers of a message, and so many of what is below them
 SLOWEST = 30  # seconds for a message of a megabyte that is made to be slow
 NOT_KNOWN = {8, 9, 16, 18}  # the findings that break no rule, and say what is not known
@@ -75,7 +75,40 @@ def why_other(browser, answer, octets):
             or differing("bad" not in kinds, browser.value("document.getElementById('answer').textContent.includes('None of the rules that are checked here is broken')")) or differing(converted.stdout, base64.b64decode(answer["der"])) or differing((listing, listing), (answer["listing"], browser.text("listing")))
             or differing([it for it in findings if it != "no findings"], shown)
             or differing(hashlib.sha256(converted.stdout).hexdigest(), answer["sha256"])
-            or differing(converted.stdout == octets, answer["isDer"]))
+            or differing(converted.stdout == octets, answer["isDer"]) or why_other_sides(browser, octets, converted.stdout))
+
+
+SIDE = """[...document.querySelectorAll('#sides pre')].map(pre => [...pre.children].map(
+    it => [it.tagName, it.id, it.getAttribute("href"), it.title, it.textContent]))"""
+TITLE = re.compile("([0-9,]+) octets? from ([0-9]+) on: (copied|made|left out)")
+MOST_OCTETS, MOST_PARTS = 48, 400  # of a part that are shown, and of each side
+TAGS = {"A": "copied", "INS": "made", "DEL": "left out"}
+
+
+def why_other_side(parts, octets):
+    """Returns what is wrong with the parts of one side: they lie one after another, and each has its octets."""
+    at = 0
+    for tag, _, _, title, text in parts:
+        length, begin, what = TITLE.fullmatch(title).groups()
+        length = int(length.replace(",", ""))
+        wanted = octets[at : at + length][:MOST_OCTETS].hex(" ") + (f" .. ({length:,} octets)" if length > MOST_OCTETS else "")
+        if (int(begin), what, text) != (at, TAGS[tag], wanted):
+            return f"{title}: {text}"
+        at += length
+    return differing(len(octets), at) if len(parts) < MOST_PARTS else ""
+
+
+def why_other_sides(browser, octets, der):
+    sides = browser.value(SIDE)
+    if octets == der:
+        return differing([], sides)
+    message, other = sides
+    links = {tuple(it[1:3]): it[4] for it in message if it[0] == "A"}
+    back = {(it[2].removeprefix("#"), f"#{it[1]}"): it[4] for it in other if it[0] == "A"}
+    is_same = links.keys() == back.keys() and all(back[it].endswith(text) for it, text in links.items() if ".." not in back[it])  # of some the first octets are in a part before
+    is_linked = is_same or len(message) == MOST_PARTS or len(other) == MOST_PARTS
+    wrong = {it[0] for it in message} - {"A", "DEL"} | {it[0] for it in other} - {"A", "INS"}
+    return why_other_side(message, octets) or why_other_side(other, der) or ("" if is_linked and not wrong else f"links {links}, and {back}; {wrong}")
 
 
 def messages():

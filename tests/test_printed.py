@@ -39,7 +39,7 @@ ARCHIVE_PAGE = TOP / "archive" / "docs" / "man" / "cms-canon-archive.1"
 OF_ARCHIVE = ("click", "tqdm", "sqlalchemy", "jinja2", "matplotlib")
 PAGE, README_OF_PYTHON = TOP / "docs" / "man" / "cms-canon.1", "bindings/python/README.md"
 RECIPES = ("docs/REFUSALS.md", "docs/FORMATS.md")
-COMMANDS = ("convert", "show", "check", "cover", "same")
+COMMANDS = ("convert", "show", "changes", "check", "cover", "same")
 OF_RUST = {"RUSTUP_HOME": ".rustup", "CARGO_HOME": ".cargo"}  # where cargo has its tools, in the home of the user
 
 READ = tomllib.loads((DATA_FILES / "printed.toml").read_text())
@@ -383,15 +383,15 @@ def test_recipes(tally, tmp_path, authority, name):
 
 
 def test_python(tally, tmp_path):
-    """Installs the package as bindings/python/README.md says, and runs the sample of the calls; tests/test_libraries.py runs that of the verifier and
-    that of the fields."""
+    """Installs the package as bindings/python/README.md says, and runs the sample of the calls; tests/test_libraries.py runs that of the verifier,
+    those of the fields and that of accounts."""
     folder, home = tmp_path / "clone", tmp_path / "home"
     home.mkdir()
     folder.mkdir()
     clone_into(folder)
     blocks = fenced((folder / README_OF_PYTHON).read_text(encoding="utf-8"))
     calls, *others = [it for it in blocks if it.language == "python"]
-    tally.count(f"{README_OF_PYTHON}: samples", "" if len(others) == 2 else f"{1 + len(others)} samples, of which three are run")
+    tally.count(f"{README_OF_PYTHON}: samples", "" if len(others) == 4 else f"{1 + len(others)} samples, of which five are run")
     message = (folder / "examples" / "message.ber").read_bytes()
     (folder / "message.ber").write_bytes(message)
     (folder / "messages.ber").write_bytes(message + message)

@@ -24,7 +24,7 @@ pytestmark = pytest.mark.skipif(
 
 CRATE = TOP / "bindings" / "rust"
 RESULT = re.compile(r"^test result: \w+\. (\d+) passed; (\d+) failed;", re.M)
-FAULT, END = "Error: OutOfMemory\n", "memory allocation of "  # of a call, and of what Rust itself does for the program
+FAULT, END = "Error: out of memory\n", "memory allocation of "  # of a call, and of what Rust itself does for the program
 SECONDS = 600
 GROWTHS = 100  # of which some are the program's before the call, and some those of its printing
 
@@ -97,7 +97,7 @@ def test_growths(target, example, tally):
     for growth in range(1, GROWTHS + 1):
         ended = run(words, target, LD_PRELOAD=refusing, REFUSED_GROWTH=growth, REFUSED_FOR="/fields")
         faults += ended.stderr == FAULT
-        is_fault = ended.returncode != 0 and not ended.stdout and ("OutOfMemory" in ended.stderr or END in ended.stderr)
+        is_fault = ended.returncode != 0 and not ended.stdout and any(it in ended.stderr for it in (FAULT, "OutOfMemory", END))
         is_right = is_fault or (ended.returncode, ended.stdout) == (0, whole)
         tally.count(f"growth {growth} refused", "" if is_right else f"status {ended.returncode}, {ended.stderr[-300:]}")
     tally.count("growths of the call refused", "" if faults > 1 else "none is an error of it")

@@ -671,7 +671,7 @@ def test_many(tally, asker, keys):
     tally.count("one verifier over two messages in turn", differs([True, False] * 2, came))
     for signer in (by_issuer(), BY_KEY_IDENTIFIER):
         certificates = [right, certificate_of(key_octets(keys.other), serial=6)]
-        with mock.patch.object(module, "_certificate", side_effect=module._certificate) as read:
+        with mock.patch.object(module, "certificate_in", side_effect=module.certificate_in) as read:
             asker.count("many signers", RIGHT * 50, message_of(signature, certificates, signer=signer, times=50))
         tally.count("many signers, certificates read", differs(2, read.call_count))
 

@@ -94,6 +94,38 @@ export interface Row {
     length: number;
 }
 
+/** A change from a message to its DER. Places are in octets, from 0. */
+export interface Change {
+    /** What is changed, as `length made definite`; docs/FORMATS.md has all kinds. */
+    kind: string;
+    /** Where what is changed begins in the message. */
+    place: number;
+    /** How many octets it has there. */
+    length: number;
+    /** Where it begins in the DER; if it is left out, where it would. */
+    derPlace: number;
+    /** How many octets it has there: 0 if it is left out. */
+    derLength: number;
+    /** A number, by the kind: what it was, or where; of segments that are joined, how many there are. */
+    first: number;
+    /** Another number, by the kind: what it is now; of segments, how many octets are in them. */
+    second: number;
+    /** The set whose member is moved, as `digestAlgorithms`; null for another kind. */
+    set: string | null;
+    /** The line of the command `changes`. */
+    text: string;
+}
+
+/** A piece of the DER of a message. */
+export interface Piece {
+    /** Where it begins, from 0: in the DER if it is made, and in the message if not. */
+    place: number;
+    /** How many octets it has. */
+    length: number;
+    /** Whether its octets are made; else they are copied from the message. */
+    made: boolean;
+}
+
 /**
  * The calls of the library. All that take a message throw `Refused` if the octets are no such message, or one above the limit; `OutOfMemory` if
  * there is no memory; `TypeError` if octets are no `Uint8Array` or options no plain object, and `RangeError` if a number is none from 0 on. Nothing
@@ -137,6 +169,15 @@ export class CmsCanon {
 
     /** Returns where each field of a message is, in the order of the definitions. */
     fields(data: Uint8Array, options?: Options): Row[];
+
+    /** Returns what `convert` changes in a message, in its order; an empty list if it is its own DER. */
+    changes(data: Uint8Array, options?: Options): Change[];
+
+    /** Returns the same as the command `changes` writes it: a line for each change, and one that counts them and the octets; or one object of JSON. */
+    listChanges(data: Uint8Array, options?: Options & { json?: boolean }): string;
+
+    /** Returns of which pieces the DER of a message is put together, in order; of a message in DER that is one piece. */
+    pieces(data: Uint8Array, options?: Options): Piece[];
 
     /** Returns where each field of a TSTInfo is, the content of a time-stamp token. */
     tstInfoFields(content: Uint8Array): Row[];

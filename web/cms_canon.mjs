@@ -3,6 +3,7 @@
 //
 // What is handed over is copied into the memory of the module, and what comes back is copied out of it. Pointers and lengths of the module have
 // 64 bits.
+import { KINDS, SETS } from "./changes.mjs";
 
 /** The octets that a message and its DER may have if no other limit is given: 256 MiB. */
 export const LIMIT = 268435456;
@@ -10,7 +11,7 @@ export const LIMIT = 268435456;
 const MAX_LIMIT = 2 ** 40;
 const DONE = 0, DIFFERENT = 1, REFUSED = 3, OUT_OF_MEMORY = 5, ROOM_TOO_SMALL = 6;
 const NO_SIGNED_DATA = 101; // the first of the reasons that are none of E1 to E19
-const OUTCOME = 48, MANY = 64, EXTENT = 24, FINDING = 16, ROW = 24, ASKED = 8, DIGEST = 68; // octets of each struct of the header
+const OUTCOME = 48, MANY = 64, EXTENT = 24, FINDING = 16, ROW = 24, PIECE = 24, CHANGE = 64, ASKED = 8, DIGEST = 68; // octets of each struct of the header
 const LARGE = 64 * 1024 * 1024; // octets of memory: it never shrinks, so that an instance that took more is not used again
 const TEXT = new TextDecoder("utf-8", { fatal: true, ignoreBOM: true });
 const REACHES = ["more", "whole", "nothing"];
@@ -321,6 +322,27 @@ export class CmsCanon {
     fields(data, options) {
         const { limit } = optionsOf(options), octets = octetsOf(data, "a message");
         return rowsOf(this.#written("cms_canon_fields", 256, ROW, octets, limit));
+    }
+
+    changes(data, options) {
+        const { limit } = optionsOf(options), octets = octetsOf(data, "a message");
+        const rows = this.#written("cms_canon_changes", 64, CHANGE, octets, limit);
+        const lines = rows.length ? this.listChanges(octets, { limit }).split("\n") : [];
+        const words = itemsOf(rows, CHANGE, (view, begin) => Array.from({ length: CHANGE / 8 }, (_, it) => Number(view.getBigUint64(begin + 8 * it, true))));
+        return words.map(([kind, place, length, derPlace, derLength, first, second, set], index) => (
+            { kind: KINDS[kind], place, length, derPlace, derLength, first, second, set: SETS[set], text: lines[index] }));
+    }
+
+    listChanges(data, options) {
+        const { json, limit } = optionsOf(options, "json"), octets = octetsOf(data, "a message");
+        return TEXT.decode(this.#written("cms_canon_list_changes", 8192, 1, octets, json ? 1 : 0, limit));
+    }
+
+    pieces(data, options) {
+        const { limit } = optionsOf(options), octets = octetsOf(data, "a message");
+        const at = (view, begin) => Number(view.getBigUint64(begin, true));
+        const pieces = this.#written("cms_canon_pieces", 256, PIECE, octets, limit);
+        return itemsOf(pieces, PIECE, (view, begin) => ({ place: at(view, begin), length: at(view, begin + 8), made: at(view, begin + 16) === 1 }));
     }
 
     tstInfoFields(content) {

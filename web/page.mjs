@@ -232,6 +232,26 @@ function derPart(answer, name) {
     return made("div", {}, made("p", { id: "is-der" }, changed), rows([["SHA-256 of the DER", answer.sha256]]), made("p", {}, link));
 }
 
+const SIDES = { message: "The message as it was read", der: "The DER" };
+const TAGS = { copied: "a", made: "ins", left: "del" };
+
+/** A part in hexadecimal. One that is copied leads to where it lies on the other side. */
+function sidePart(side, other, { kind, number, begin, length, octets: some }) {
+    const digits = [...some].map(it => it.toString(16).padStart(2, "0")).join(" ");
+    const about = { copied: "copied", made: "made", left: "left out" }[kind];
+    const attributes = { title: `${octets(length)} from ${begin} on: ${about}`, ...(kind === "copied" ? { id: `${side}-${number}`, href: `#${other}-${number}` } : {}) };
+    return made(TAGS[kind], attributes, length > some.length ? `${digits} .. (${octets(length)})` : digits);
+}
+
+function sidesPart(sides) {
+    const columns = Object.entries(SIDES).map(([side, title]) => {
+        const { shown: parts, more } = sides[side], other = side === "der" ? "message" : "der";
+        return made("div", {}, made("h4", {}, title), made("pre", {}, ...parts.flatMap(it => [sidePart(side, other, it), " "])), ...andMore(more));
+    });
+    const key = made("p", {}, "What is copied is a link to where it lies on the other side; ", made("del", {}, "what is left out"), ", ", made("ins", {}, "what is made"), ".");
+    return made("details", { id: "sides" }, made("summary", {}, "Both encodings, octet by octet"), key, made("div", { class: "sides" }, ...columns));
+}
+
 /** Whether a signer gives a digest with which a document can be compared. */
 const canCompare = ({ kind, signers }) => kind === "signed" && signers.shown.some(it => it.hasSignedAttributes);
 
@@ -249,7 +269,8 @@ function messageParts(answer, name) {
     const parts = [title, rows([["File", name], ["Form", answer.form], ["Message", octets(answer.length)]]), ...factParts(answer.facts),
         made("h3", {}, "Is it whole, and by the rules?"), answer.inMail ? verdictPart(answer.inMail, answer.inMail.name) : null,
         answer.inside ? insidePart(answer.inside) : null, nobodyPart(answer.facts),
-        findingsPart(answer.findings, canCompare(answer.facts)), made("h3", {}, "Its canonical form"), derPart(answer, name), details];
+        findingsPart(answer.findings, canCompare(answer.facts)), made("h3", {}, "Its canonical form"), derPart(answer, name),
+        answer.sides && sidesPart(answer.sides), details];
     return parts.filter(Boolean);
 }
 

@@ -6,6 +6,7 @@ import { areEqual, hexOf } from "./elements.mjs";
 import { factsOf, shownOf } from "./facts.mjs";
 import { hintOf, isSecret } from "./hints.mjs";
 import { NoMessage, messageIn } from "./inputs.mjs";
+import { sidesOf } from "./sides.mjs";
 import { FINDINGS, REFUSALS } from "./texts.mjs";
 
 const HEAD = 65536, PIECE = 1 << 20; // octets that are read of a file at once
@@ -120,7 +121,8 @@ async function described(found, progress) {
     const der = canon.convert(octets), facts = factsOf(canon, octets);
     const isDer = areEqual(der, octets), inMail = found.content && (await comparedInMail(found, facts, progress));
     const findings = inMail?.findings ?? canon.check(octets).map(worded), inside = found.content ? null : verdictOnInside(facts, findings);
-    return { form, length: octets.length, facts, isDer, der, sha256: sha256Of(der), listing: canon.show(octets), findings, inMail, inside };
+    const sides = isDer ? null : sidesOf(octets, der, canon.pieces(octets));
+    return { form, length: octets.length, facts, isDer, der, sides, sha256: sha256Of(der), listing: canon.show(octets), findings, inMail, inside };
 }
 
 /** Each job is handed what the page gives, and the message with the number that it names. */

@@ -14,7 +14,7 @@ from typing import TYPE_CHECKING, Any, Callable, Dict, Iterable, Iterator, List,
 
 import click
 
-from .faults import Complaint, line_of
+from .faults import Complaint, Misuse, line_of
 from .options import PATIENCE, TOGETHER, Options
 
 if TYPE_CHECKING:
@@ -128,6 +128,8 @@ class _Commands(click.Group):
             return super().invoke(context)
         except (click.ClickException, click.Abort, click.exceptions.Exit):  # for which no module of a store is imported
             raise
+        except Misuse as error:
+            raise click.UsageError(str(error))
         except ValueError as error:
             raise click.ClickException(str(error))
         except Exception as error:
@@ -225,10 +227,12 @@ def _pipe(paths: Sequence[str], url: str) -> str:
     return f"parallel --nonall --sshloginfile hosts {work} & cms-canon-archive index {named} --store {store} --jobs 0; wait"
 
 
-def _missing(paths: Iterable[str]) -> List[Tuple[str, str]]:
-    """Returns which of the paths are not there, and why."""
+def _missing(paths: Sequence[str]) -> List[Tuple[str, str]]:
+    """Returns which of the paths are not there, and why. An empty one, as of a variable of a shell that is not set, is a usage fault."""
     from .walking import is_there
 
+    if "" in paths:
+        raise click.UsageError("a PATH is empty")
     return [(path, _why_missing(path)) for path in paths if not is_there(path)]
 
 
@@ -307,6 +311,7 @@ def index_command(
     from .queries import totals
     from .showing import Bar
     from .store import Store
+    from .texts import counted
     from .walking import is_there, place_of, tops_of
     from .writing import write
 
@@ -321,7 +326,7 @@ def index_command(
     listed = _said_wrong(partial(manifest_in, manifest)) if manifest else None
     store = Store(url, makes=True, wait=wait)
     tops, missing = tops_of(filter(is_there, paths)), _missing(paths)
-    plan = Plan(tops, Options(together, patience), jobs, scheduler, anew, verifies or bool(given), settings, [(place_of(it), why) for it, why in missing if it])
+    plan = Plan(tops, Options(together, patience), jobs, scheduler, anew, verifies or bool(given), settings, [(place_of(it), why) for it, why in missing])
     with Bar() as bar:
         done = index(store, plan, line_of, bar.show)
     store = Store(url, wait=wait)
@@ -331,7 +336,7 @@ def index_command(
     if form == "json":
         write([{"read": done.files, "unchanged": done.unchanged, "gone": done.gone, **found._asdict()}], form, ())
     names = f": `cms-canon-archive changes` names {'them' if done.gone > 1 else 'it'}" if done.gone else ""
-    click.echo(f"{done.files} files read, {done.unchanged} unchanged, {done.gone} gone{names}", err=True)
+    click.echo(f"{counted(done.files, 'file')} read, {done.unchanged:,} unchanged, {done.gone:,} gone{names}", err=True)
     for line in _lines_of_totals(found):
         click.echo(line, err=True)
     _end_if_missing(missing)
@@ -386,7 +391,9 @@ def _write_differing(store: Store, manifest: Manifest, tops: Sequence[str], form
 
 def _lines_of_totals(found: Totals) -> Iterator[str]:
     """Says what is in an index, and which command says more."""
-    yield f"the index has {found.files:,} files with {found.messages:,} messages: {found.fit:,} fit"
+    from .texts import counted
+
+    yield f"the index has {counted(found.files, 'file')} with {counted(found.messages, 'message')}: {found.fit:,} fit"
     for count, said, word in (
         (found.in_part, "fit only in part, or an earlier revision", "check"), (found.differ, "do not fit", "check"),
         (found.wrong, "have a wrong signature", "check"), (found.wrong_times, "have a time-stamp that does not fit", "check"), (found.unjudged, "could not be judged", "check"), (found.refused, "are refused, damaged or too large", "refusals"),
@@ -491,7 +498,8 @@ def rows_command(paths: Tuple[str, ...], verifies: bool) -> None:
     for part in parts_of(entries_of(tops_of(filter(is_there, paths))), BY_MESSAGE if verifies else NOT_VERIFIED):
         write(part.rows, "json", ())
         count += len(part.rows)
-    click.echo(json.dumps({"end": count}))
+    if not missing:  # or `load` would say that it has all that it was given
+        click.echo(json.dumps({"end": count}))
     _end_if_missing(missing)
 
 
@@ -503,16 +511,19 @@ def load_command(url: str, wait: Optional[float]) -> None:
     from .indexing import gathered
     from .loading import Lines
     from .texts import path_text_of
-    from .store import Store
+    from .store import LOAD, Store
 
     store = Store(url, makes=True, wait=wait)
+    store.note({LOAD: "it has not ended"})
     own = set(map(path_text_of, store.own_files()))
     lines = Lines()
     texts = click.get_text_stream("stdin", encoding="utf-8", errors="surrogateescape")
     for parts in gathered(it for it in lines.parts_of(texts) if it.path not in own):
         store.put(parts)
     store.finish()
-    if complaint := lines.complaint():
+    complaint = lines.complaint()
+    store.note({LOAD: complaint or ""})
+    if complaint:
         raise click.ClickException(complaint)
 
 
@@ -551,7 +562,8 @@ def check_command(
     the standard input. The status is 0 only if each digest of each message and of each time-stamp in it was compared, and fits, and with --verify or
     --certificates if the signature of each signer is right. It is 1 if a digest does not fit, or a signature is wrong, and 3 if anything is not known.
 
-    Without FILE, the status is likewise that of all messages that somebody signed, listed or not, and 3 if anything is refused, damaged or unreadable.
+    Without FILE, the status is likewise that of all messages that somebody signed, listed or not, and 3 if anything is refused, damaged or unreadable:
+    of what lies in the PATH of --under if that is given, whatever else chooses what is listed.
     """
     if file is not None:
         if all_of_them or noted or any(it is not None for it in filters):
@@ -570,10 +582,10 @@ def check_command(
     def rows() -> Iterator[Dict[str, Any]]:
         store = _opened(url, wait, filters.under)
         if not folders:
-            came.update(queries.outcomes(store, filters))
+            came.update(queries.outcomes(store, filters.of_place))
         is_any = all_of_them or filters.state is not None
         yield from _with_name(queries.noted(store, filters) if noted else _checked(store, folders, is_any, filters, came))
-        for line in queries.unknown(store, filters).lines():
+        for line in queries.unknown(store, filters.of_place).lines():
             came.add(Outcome.NOT_KNOWN)
             click.echo(line, err=True)
 
@@ -582,7 +594,7 @@ def check_command(
 
 
 def _checked(store: Store, folders: Sequence[str], all_of_them: bool, filters: Filters, came: Set[Outcome]) -> Iterator[Row]:
-    """Gives the messages of an index. If their contents are looked for in folders, what came of each is added, listed or not."""
+    """Gives the messages of an index. If their contents are looked for in folders, the outcome of each one below `--under` is added, listed or not."""
     from .outcomes import Outcome
     from .queries import checked
     from .rechecking import checked_in
@@ -590,6 +602,8 @@ def _checked(store: Store, folders: Sequence[str], all_of_them: bool, filters: F
     if not folders:
         yield from checked(store, all_of_them, filters)
         return
+    if filters.chooses:
+        came.update(Outcome(row["outcome"]) for row in checked_in(store, folders, False, filters.of_place))
     for number, row in enumerate(checked_in(store, folders, all_of_them, filters._replace(limit=None))):
         came.add(Outcome(row["outcome"]))
         if filters.limit is None or number < filters.limit:
@@ -897,19 +911,22 @@ def refusals_command(filters: Filters, url: str, wait: Optional[float], form: Op
 
 
 @main.command("changed")
+@click.option("--count", "counts", is_flag=True, help="Read each file again, and say how many changes conversion makes.")
 @_filtered(*_FILTERS, *_ORDER)
 @_store
 @_wait
 @_json
 @_csv
-def changed_command(filters: Filters, url: str, wait: Optional[float], form: Optional[str]) -> None:
+def changed_command(counts: bool, filters: Filters, url: str, wait: Optional[float], form: Optional[str]) -> None:
     """List the messages that are not DER.
 
-    A copy of them in DER would have other octets.
+    A copy of them in DER would have other octets: `changes-of FILE` says which.
     """
+    from .changing import with_changes
     from .queries import changed
 
-    _write_named(changed(_opened(url, wait, filters.under), filters), form, ("file", "kind", "length"))
+    rows = changed(_opened(url, wait, filters.under), filters)
+    _write_named(with_changes(rows) if counts else rows, form, ("file", "kind", "length", *(["changes"] if counts else [])))
 
 
 # ---- files
@@ -923,6 +940,16 @@ def show_command(file: str, form: Optional[str]) -> None:
     from .exporting import shown_in
 
     sys.exit(0 if _report_each(shown_in(file, _fields_in_json if form == "json" else _listing), form) else 1)
+
+
+@main.command("changes-of")
+@click.argument("file", type=click.Path(exists=True, dir_okay=False))
+@_json
+def changes_of_command(file: str, form: Optional[str]) -> None:
+    """Say what conversion changes in the messages of FILE: a line for each change, with its place in the message."""
+    from .exporting import changes_in
+
+    sys.exit(0 if _report_each(changes_in(file, form == "json"), form) else 1)
 
 
 def _fields_in_json(der: bytes) -> str:

@@ -60,11 +60,16 @@ def _put(file: Path, der: bytes) -> None:
         raise OSError("there is a file of other octets")
 
 
-def der_of(found: Found, limit: int = cms_canon.LIMIT) -> bytes:
-    """Returns the DER of a message that was found. Raises `OSError` if none was."""
+def octets_of(found: Found) -> bytes:
+    """Returns the octets of a message that was found. Raises `OSError` if none was."""
     if found.what is not Class.MESSAGE or found.octets is None:
         raise OSError(found.note or "there is no message any more")
-    return cms_canon.convert(found.octets, limit)
+    return found.octets
+
+
+def der_of(found: Found, limit: int = cms_canon.LIMIT) -> bytes:
+    """Returns the DER of a message that was found. Raises `OSError` if none was."""
+    return cms_canon.convert(octets_of(found), limit)
 
 
 def _copy(found: Found, digest: str, file: Path) -> Optional[str]:
@@ -174,21 +179,26 @@ def digests_in(path: str, octets: Optional[bytes]) -> Iterator[Copied]:
     """Gives the SHA-256 of the DER of each message in a file, or in octets if they are given."""
     given = None if octets is None else found_in(in_memory("", octets, Budget(len(octets))))
     messages = _messages_in(path) if given is None else (it for it in given if it.what in _MAY_BE)
-    yield from _of_each(path, messages, lambda der: hashlib.sha256(der).hexdigest())
+    yield from _of_each(path, messages, lambda found: hashlib.sha256(der_of(found)).hexdigest())
 
 
 def shown_in(path: str, show: Callable[[bytes], str]) -> Iterator[Copied]:
     """Gives what `show` returns of the DER of each message in a file."""
-    return _of_each(path, _messages_in(path), show)
+    return _of_each(path, _messages_in(path), lambda found: show(der_of(found)))
 
 
-def _of_each(path: str, messages: Iterable[Found], show: Callable[[bytes], str]) -> Iterator[Copied]:
-    """Gives what `show` returns of the DER of each message of a file, or that there is none."""
+def changes_in(path: str, json: bool) -> Iterator[Copied]:
+    """Gives what conversion changes in each message in a file, as lines or in JSON."""
+    return _of_each(path, _messages_in(path), lambda found: cms_canon.list_changes(octets_of(found), json=json))
+
+
+def _of_each(path: str, messages: Iterable[Found], show: Callable[[Found], str]) -> Iterator[Copied]:
+    """Gives what `show` returns of each message of a file, or that there is none."""
     count = 0
     for count, found in enumerate(messages, 1):
         name = name_of_found(path, found)
         try:
-            yield Copied(name, None, show(der_of(found)))
+            yield Copied(name, None, show(found))
         except (OSError, MemoryError, cms_canon.Refused) as why:
             yield Copied(name, str(why) or "out of memory")
     if not count:

@@ -12,6 +12,10 @@ class Complaint(Exception):
     """Something is wrong that is no fault of the program: this says it in a line."""
 
 
+class Misuse(ValueError):
+    """A word of the command line is wrong, as is seen only once the store is open."""
+
+
 def line_of(error: Exception) -> Optional[str]:
     """Returns the line that says an error of a command or of a worker; None if it is a fault of the program."""
     if isinstance(error, ModuleNotFoundError):

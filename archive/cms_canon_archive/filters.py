@@ -9,6 +9,7 @@ from typing import Any, Callable, List, NamedTuple, Optional
 import sqlalchemy as sa
 
 from .containers.found import State
+from .faults import Misuse
 from .tables import FILES, PLACE_SIGNERS, PLACE_TIMES, PLACES, SIGNERS, TIMES, of_same_place
 
 _DATE = re.compile(r"[0-9]{4}(?:-[0-9]{2}(?:-[0-9]{2}(?:T[0-9]{2}:[0-9]{2}(?::[0-9]{2}Z?)?)?)?)?")
@@ -48,6 +49,16 @@ class Filters(NamedTuple):
     sort: Optional[str] = None
     limit: Optional[int] = None
 
+    @property
+    def of_place(self) -> Filters:
+        """The same place, with no other choice."""
+        return Filters(under=self.under)
+
+    @property
+    def chooses(self) -> bool:
+        """Whether anything but the place chooses among rows."""
+        return self._replace(under=None, sort=None, limit=None) != ALL
+
     def check(self) -> None:
         """Raises `ValueError` with a line if anything is asked for that no row can have."""
         states = [it.value for it in State]
@@ -67,7 +78,7 @@ class Filters(NamedTuple):
         if self.sort is not None:
             columns = {it.name: it for it in query.selected_columns}
             if self.sort not in columns:
-                raise ValueError(f"--sort is one of: {', '.join(sorted(columns))}")
+                raise Misuse(f"--sort is one of: {', '.join(sorted(columns))}")
             query = query.order_by(None).order_by(columns[self.sort].nulls_last(), *(table.c[it] for it in _KEY))
         return query if self.limit is None else query.limit(self.limit)
 

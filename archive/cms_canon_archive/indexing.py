@@ -3,6 +3,7 @@
 from __future__ import annotations
 
 import fcntl
+import json
 import os
 import sys
 import time
@@ -26,7 +27,7 @@ from .settings import put as put_settings
 from .history import BEGAN, ENDED
 from .spool import Spool
 from .spool import store as store_rows
-from .store import Store
+from .store import MISSING, MOST_PATHS, Store
 from .tables import IS_TAKEN, IS_TO_DO, OF_PARTS, PARTS, PLACES, Now, insertion
 from .texts import path_text_of, text_of
 from .versions import own_version
@@ -54,11 +55,11 @@ Show = Callable[[State, Counts], None]  # shows where an index is, and what was 
 
 
 def put_in(
-    store: Store, tops: Sequence[str], anew: bool = False, verifies: bool = False, settings: Settings = NO_SETTINGS, missing: Iterable[Missing] = ()
+    store: Store, tops: Sequence[str], anew: bool = False, verifies: bool = False, settings: Settings = NO_SETTINGS, missing: Sequence[Missing] = ()
 ) -> int:
     """Has the parts of these folders and files done, and done again if they are done or being done. Returns how many are to be done, at most 10,000.
 
-    `missing` are paths that were named and are not there: what the index has of one is kept, and a row says so.
+    `missing` are paths that were named and are not there: what the index has of one is kept, and a row says so. Until the next index, the store names them.
     """
 
     began = _beginning(store)
@@ -76,7 +77,8 @@ def put_in(
             return int(connection.execute(sa.select(sa.func.count()).select_from(some)).scalar_one())
 
     to_do = store.tried(put)
-    store.note_paths(map(_noted, tops), {**own_version().noted(), BEGAN: str(began), ENDED: ""})
+    not_there = json.dumps(sorted(path_text_of(it) for it, _ in missing)[:MOST_PATHS])
+    store.note_paths(map(_noted, tops), {**own_version().noted(), BEGAN: str(began), ENDED: "", MISSING: not_there})
     return to_do
 
 
@@ -99,14 +101,22 @@ def _put_top(connection: sa.engine.Connection, top: str, is_folder: bool, how: D
     name = "" if is_folder else text_of(os.path.basename(top))
     part = {"path": folder, "name": name, "whole": whole, "top": len(whole or folder)}
     connection.execute(insertion(PARTS, connection.dialect.name).values(**part).on_conflict_do_nothing(index_elements=["path", "name", "chunk"]))
-    own = PARTS.c.path == folder
-    is_inside = (PARTS.c.path >= folder) & (PARTS.c.path < folder[:-1] + "0") if is_folder else own & (PARTS.c.name == name)
+    is_inside = _is_inside(folder) if is_folder else (PARTS.c.path == folder) & (PARTS.c.name == name)
     again = {"state": sa.case((PARTS.c.state == 1, 1), else_=0), "again": PARTS.c.state == 1, "tries": sa.case((PARTS.c.state == 1, PARTS.c.tries), else_=0)}
     connection.execute(sa.update(PARTS).where(is_inside).values(top=len(whole or folder), doing=None, **how, **again))
-    if not is_folder:  # what was stored of it as one of its folder is now stored of the part
-        others = sa.select(PARTS.c.id).where(own, PARTS.c.name == "")
-        for table in OF_PARTS:
-            connection.execute(sa.delete(table).where(table.c.part.in_(others), table.c.file == name))
+    above, base = texts_of_folder(os.path.dirname(top))[0], text_of(os.path.basename(top))
+    if base:
+        is_file = (PARTS.c.path == above) & (PARTS.c.name == base)
+        is_other_kind = is_file if is_folder else _is_inside(texts_of_folder(top)[0])
+        connection.execute(sa.update(PARTS).where(is_other_kind).values(doing=None, **again))  # by which a worker finds that it is gone
+        own = sa.select(PARTS.c.id).where(PARTS.c.path == above, PARTS.c.name == "")
+        for table in OF_PARTS:  # what was stored of a file as one of its folder is now stored of the part, or is no file any more
+            connection.execute(sa.delete(table).where(table.c.part.in_(own), table.c.file == base))
+
+
+def _is_inside(folder: str) -> Any:
+    """Returns the condition that a part is a folder of this text, or lies in it."""
+    return (PARTS.c.path >= folder) & (PARTS.c.path < folder[:-1] + "0")
 
 
 def _note_missing(connection: sa.engine.Connection, path: str, why: str) -> None:

@@ -16,20 +16,20 @@ from typing import TYPE_CHECKING, AbstractSet, Dict, FrozenSet, Iterable, Iterat
 
 import cms_canon
 from cms_canon import _facts
+from cms_canon._certificates import Certificate, certificate_in
 from cms_canon._elements import elements_of
 from cms_canon._facts import facts_of, token_facts_of
 from cms_canon._names import NAMES
 from cms_canon._rows import dotted
 
 from .certificate_texts import dates_of, name_text
-from .containers.found import GOOD, Class, Content, Found, State, digest_of
+from .containers.found import GOOD, Class, Content, Due, Found, Octets, State, digest_of
 from .containers.packed import why_of
-from .containers.refused import named
+from .containers.refused import IN_PLACE, UNNAMED, is_cms, named
 from .containers.sources import Ended
 from .texts import text_of
 
 if TYPE_CHECKING:
-    from cms_canon import verifier
     from cryptography import x509
 
 MOST_LISTED = 1000  # signers, tokens or findings of one message that are recorded
@@ -42,6 +42,11 @@ _MESSAGE_DIGEST, _SIGNING_TIME = "1.2.840.113549.1.9.4", "1.2.840.113549.1.9.5"
 _OVER_SIGNATURE = {"1.2.840.113549.1.9.16.2.14", "1.3.6.1.4.1.311.3.3.1"}  # tokens for the signature
 _OVER_MORE = {*(f"1.2.840.113549.1.9.16.2.{it}" for it in (25, 26, 27, 48)), "0.4.0.1733.2.4"}  # for the signature and more
 OF_TIMES = _OVER_SIGNATURE | _OVER_MORE
+_OVER_CONTENT = "1.2.840.113549.1.9.16.2.20"  # a signed attribute: tokens for the content (RFC 5126, section 5.11.4)
+_ODD_IN_SIGNED = OF_TIMES | {"1.2.840.113549.1.9.6"}  # tokens and countersignatures, which belong to the unsigned attributes
+_ODD_IN_UNSIGNED = {_OVER_CONTENT, "1.3.6.1.4.1.311.2.4.1"}  # a token for the content, and a signature in an attribute, as Windows programs have it
+DEEPEST_TOKEN = 4  # tokens in attributes of one another
+NOT_ALL_TIMES = "not all of its time-stamps are looked at"
 _TOKEN = "tSTInfo"
 _UTC_TIME, _GENERALIZED_TIME = 0x17, 0x18
 _PKCS1, _ECDSA, _NIST = "1.2.840.113549.1.1", "1.2.840.10045.4", "2.16.840.1.101.3.4"
@@ -87,7 +92,8 @@ class Time(NamedTuple):
     """A time that a token vouches for."""
 
     number: str
-    """Empty for the token that the message is; else that of the signer whose unsigned attribute it is, a slash, and its own from 0."""
+    """Empty for the token that the message is; else that of the signer whose attribute it is, a slash, and its own from 0; after the word `content` for
+    one of the content, in a signed attribute, and after `other` for what belongs to no such attribute."""
     time: Optional[str]
     policy: Optional[str]
     serial: Optional[str]
@@ -201,7 +207,7 @@ def _certificate(octets: bytes) -> Optional[_Certificate]:
     return _short_certificate(octets) if len(octets) <= SHORT else _read_certificate(octets)
 
 
-def _key_identifier(certificate: verifier._Certificate) -> Optional[bytes]:
+def _key_identifier(certificate: Certificate) -> Optional[bytes]:
     """Returns the key identifier of a certificate; None if there is none in DER."""
     try:
         return certificate.subject_key_identifier
@@ -210,11 +216,10 @@ def _key_identifier(certificate: verifier._Certificate) -> Optional[bytes]:
 
 
 def _read_certificate(octets: bytes) -> Optional[_Certificate]:
-    from cms_canon import verifier
     from cryptography import x509
 
     try:
-        known = verifier._certificate(octets)
+        known = certificate_in(octets)
     except ValueError:
         return None
     found = _Certificate(known.issuer, known.serial_number, _key_identifier(known), hashlib.sha256(octets).hexdigest())
@@ -376,26 +381,99 @@ def _time(number: str, facts: _facts.Facts, state: State, given: Sequence[_Certi
     return time._replace(subject=known.subject, not_after=known.not_after, signature=signature, key=known.key, bits=known.bits)
 
 
-def _attribute_times(signer: _facts.Signer, given: Sequence[_Certificate]) -> Iterator[Time]:
+def _attribute_times(signer: _facts.Signer, given: Sequence[_Certificate], depth: int) -> Iterator[Time]:
     """Gives the times of the tokens in the unsigned attributes of a signer. The imprint of one for its signature is compared."""
     count = 0
     for oid, values in signer.unsigned:
         if oid not in OF_TIMES:
             continue
         for value in values:
-            yield _attribute_time(f"{signer.number}/{count}", value, signer.signature if oid in _OVER_SIGNATURE else None, given)
+            yield _attribute_time(f"{signer.number}/{count}", value, signer.signature if oid in _OVER_SIGNATURE else None, given, depth)
             count += 1
 
 
-def _attribute_time(number: str, token: bytes, covered: Optional[bytes], given: Sequence[_Certificate]) -> Time:
+def _odd_times(signer: _facts.Signer) -> Iterator[Time]:
+    """Gives what nobody compares: tokens and signatures among attributes to which they do not belong, and attributes without a token."""
+    odd = [it for it in signer.signed if it in _ODD_IN_SIGNED]
+    odd += [oid for oid, values in signer.unsigned if oid in _ODD_IN_UNSIGNED or (oid in OF_TIMES and not values)]
+    odd += [oid for oid, values in signer.signed.items() if oid == _OVER_CONTENT and not values]
+    for number, _ in enumerate(odd):
+        yield Time(f"other {signer.number}/{number}", None, None, None, None, State.NO_DIGEST)
+
+
+def _with_inner(state: State, facts: _facts.Facts, depth: int) -> State:
+    """Returns the state of a token with regard to its countersignatures and to the tokens in its attributes."""
+    state, _ = _with_countersigned(state, facts)
+    stamped = [it for it in facts.signers if it.unsigned or it.signed.keys() & (_ODD_IN_SIGNED | {_OVER_CONTENT})]
+    inner = {it.state for it in _all_times(facts, None, stamped, state, (), depth + 1)} if depth < DEEPEST_TOKEN else {State.NO_DIGEST} if stamped else set()
+    if state is State.DIFFERS or State.DIFFERS in inner:
+        return State.DIFFERS
+    return state if inner <= {State.FITS} else State.NO_DIGEST
+
+
+def _content_times(signer: _facts.Signer, judged_so: _Content, given: Sequence[_Certificate], depth: int) -> Iterator[Time]:
+    """Gives the times of the tokens for the content in the signed attributes of a signer."""
+    for number, value in enumerate(signer.signed.get(_OVER_CONTENT, [])):
+        yield _content_time(f"content {signer.number}/{number}", value, signer, judged_so, given, depth)
+
+
+def _content_time(
+    number: str, token: bytes, signer: _facts.Signer, judged_so: _Content, given: Sequence[_Certificate], depth: int
+) -> Time:
+    try:
+        facts = facts_of(token, checks=False)
+        codes = {it.code for it in cms_canon.check(token, stamped=b"")} - {_F14}
+    except cms_canon.Refused:
+        return Time(number, None, None, None, None, State.NO_DIGEST)
+    said = _token_facts(facts)
+    bound = State.NO_DIGEST if said is None else _state_of_imprint(said, signer, judged_so)
+    return _time(number, facts, _with_inner(_state_of_token(facts, codes, bound), facts, depth), given)
+
+
+def _state_of_imprint(said: _facts.TokenFacts, signer: _facts.Signer, judged_so: _Content) -> State:
+    """Returns whether the imprint of a token fits the content, which is not read if the message digest of the signer is by the same algorithm."""
+    name = NAMES.get(dotted(said.hash_algorithm), "")
+    if name not in _HASHES:
+        return State.UNKNOWN_DIGEST
+    if NAMES.get(dotted(signer.digest_algorithm), "") == name:
+        digest = _message_digest(signer)
+    elif "." in signer.number:  # a countersigner signs a signature, and no content
+        digest = None
+    elif judged_so.pieces is None or judged_so.state is State.UNREADABLE:
+        return judged_so.state
+    else:
+        digest = judged_so.digest(_HASHES[name])
+    if digest is None:
+        return State.NO_DIGEST
+    return judged_so.state if digest == said.imprint else State.DIFFERS
+
+
+def _attribute_time(number: str, token: bytes, covered: Optional[bytes], given: Sequence[_Certificate], depth: int) -> Time:
     try:
         facts = facts_of(token, checks=False)
         codes = {it.code for it in cms_canon.check(token, stamped=covered if covered is not None else b"")}
     except cms_canon.Refused:
         return Time(number, None, None, None, None, State.NO_DIGEST)
     if covered is None:
-        return _time(number, facts, _state_of_token(facts, codes - {_F14}, State.COVERS_MORE), given)
-    return _time(number, facts, _state_of_token(facts, codes, State.FITS), given)
+        return _time(number, facts, _with_inner(_state_of_token(facts, codes - {_F14}, State.COVERS_MORE), facts, depth), given)
+    return _time(number, facts, _with_inner(_state_of_token(facts, codes, State.FITS), facts, depth), given)
+
+
+class _Content:
+    """The content of a message, and what is known of it."""
+
+    def __init__(self, state: State, inside: Optional[memoryview], elsewhere: Optional[Content]) -> None:
+        self.state = state
+        self.pieces: Optional[Iterable[Octets]] = (inside,) if inside is not None else elsewhere.pieces if elsewhere is not None else None
+        self._digests: Dict[str, bytes] = {}
+
+    def digest(self, algorithm: str) -> Optional[bytes]:
+        """Returns the digest of the content, which is read once for each algorithm; None if it is not there."""
+        if self.pieces is None:
+            return None
+        if algorithm not in self._digests:
+            self._digests[algorithm] = digest_of(self.pieces, algorithm)
+        return self._digests[algorithm]
 
 
 # ---- findings
@@ -500,12 +578,19 @@ def _signers_of_content(facts: _facts.Facts) -> FrozenSet[int]:
 # ---- the state
 
 
-def _kind_of(facts: _facts.Facts, is_token: bool) -> str:
+def _kind_of(found: Found, facts: _facts.Facts, is_token: bool) -> str:
     if facts.kind != "signed-data":
         return facts.kind
-    if not facts.signers:
+    if not facts.signers and facts.content is None and not found.is_detached:
         return "certificates"
     return "token" if is_token else "signature"
+
+
+def _in_place(found: Found, kind: str) -> str:
+    """Returns the note on certificates or a request in place of a signature; on a request also in place of any other message."""
+    if kind == "request" and (found.is_signature_due or found.due is Due.MESSAGE):
+        return f"a request{IN_PLACE}"
+    return f"certificates{IN_PLACE}" if kind == "certificates" and found.is_signature_due else ""
 
 
 def _is_inside(facts: _facts.Facts, content: Content) -> bool:
@@ -592,24 +677,36 @@ def _names(names: Sequence[str]) -> str:
     return names[0] if len(names) == 1 else ", ".join(sorted(set(names)))
 
 
-def _times_of(facts: _facts.Facts, is_token: bool, state: State, given: Sequence[_Certificate]) -> List[Time]:
-    """Returns the times of the message itself, if it is a token, and of the tokens in unsigned attributes."""
+def _times_of(found: Found, facts: _facts.Facts, is_token: bool, state: State, given: Sequence[_Certificate]) -> List[Time]:
+    """Returns the times of the message itself, if it is a token, and of the tokens in attributes: one more than are listed, if there are more."""
     own = [_time("", facts, state, given)] if is_token and facts.signers else []
-    stamped = [it for it in facts.signers[:MOST_LISTED] if it.unsigned]
-    return own + list(islice((time for it in stamped for time in _attribute_times(it, given)), MOST_LISTED)) if stamped else own
+    stamped = [it for it in facts.signers if it.unsigned or it.signed.keys() & (_ODD_IN_SIGNED | {_OVER_CONTENT})]
+    return own + list(islice(_all_times(facts, found.content, stamped, state, given), MOST_LISTED + 1 - len(own))) if stamped else own
+
+
+def _all_times(
+    facts: _facts.Facts, content: Optional[Content], stamped: Iterable[_facts.Signer], state: State, given: Sequence[_Certificate], depth: int = 0
+) -> Iterator[Time]:
+    judged_so = _Content(state, facts.content, content)
+    for signer in stamped:
+        yield from _attribute_times(signer, given, depth)
+        yield from _content_times(signer, judged_so, given, depth)
+        yield from _odd_times(signer)
 
 
 def _judged_message(found: Found, octets: bytes, how: Verification) -> Facts:
     facts = found.facts or facts_of(octets, checks=found.content is None)
     is_token = _is_token(facts)
-    kind = _kind_of(facts, is_token)
+    kind = _kind_of(found, facts, is_token)
     findings = _findings(octets, facts, found.content, is_token)
     verified = _verified(facts, found.content, how.certificates) if how.verifies and facts.signers else _NONE_VERIFIED
     state, of_countersigners = _with_countersigned(_state_of(found, facts, kind, findings.codes, verified), facts)
     known = [*filter(None, map(_certificate, how.certificates))]
     certificates = [*known, *_certificates_of(facts)] if facts.signers else []
     signers = [_signer(it, certificates, verified) for it in facts.signers[:MOST_LISTED]]
-    times = _times_of(facts, is_token, state, known)
+    times = _times_of(found, facts, is_token, state, known)
+    is_cut = len(times) > MOST_LISTED
+    del times[MOST_LISTED:]
     of_times = next((f"token {it.number}: {it.state.value}" for it in times if it.number and it.state is State.DIFFERS), "")
     return Facts(
         what=Class.MESSAGE,
@@ -621,7 +718,7 @@ def _judged_message(found: Found, octets: bytes, how: Verification) -> Facts:
         content_type=None if facts.content_type is None else name_of_oid(facts.content_type),
         content=_where(found, facts, is_token),
         state=state,
-        note=_joined(_note_of(found), of_countersigners, of_times),
+        note=_joined(NOT_ALL_TIMES if is_cut else "", _in_place(found, kind), _note_of(found), of_countersigners, of_times),
         findings=findings.text,
         digests=_names([it.digest for it in signers]),
         signatures=_names([it.signature for it in signers]),
@@ -642,4 +739,8 @@ def judged(found: Found, how: Verification = NOT_VERIFIED) -> Facts:
         unread = Content(where, 0, (), State.UNREADABLE, f"{where}: {why_of(why)}")
         return judged(found.with_content(unread), how)
     except cms_canon.Refused as refused:
-        return Facts(Class.REFUSED, note=_joined(_note_of(found), named(found.octets)), reason=refused.reason, name=refused.name, at=refused.at)
+        what, note = named(found.octets), _note_of(found)
+        if what and (found.is_signature_due or (found.due is Due.MESSAGE and not is_cms(what))):
+            what += IN_PLACE
+        note = _joined(note, what or (UNNAMED if note else ""))
+        return Facts(Class.REFUSED, note=note, reason=refused.reason, name=refused.name, at=refused.at)

@@ -19,6 +19,7 @@ class Lines:
         self._count = 0  # of wrong lines, of which the first are kept
         self._since_end = 0  # lines since the last one that said how many there are
         self._unended = False
+        self._ends = 0  # lines that said how many there are
 
     def parts_of(self, lines: Iterable[str]) -> Iterator[Part]:
         """Gives the rows in parts of one file each. A file without its own row is given only as far as it was handed over before."""
@@ -33,6 +34,7 @@ class Lines:
             if isinstance(value, dict) and set(value) == {"end"}:
                 self._unended = self._unended or value["end"] != self._since_end
                 self._since_end = 0
+                self._ends += 1
                 continue
             self._since_end += 1
             if not is_row(value):
@@ -42,7 +44,7 @@ class Lines:
                 is_left_out = value["member"] != ""
             else:
                 yield value
-        self._unended = self._unended or self._since_end > 0
+        self._unended = self._unended or self._since_end > 0 or not self._ends
 
     def _note(self, number: int) -> None:
         self._count += 1

@@ -11,6 +11,8 @@ from dataclasses import replace
 from pathlib import Path
 from typing import Callable, Dict, Iterable, Iterator, List, NamedTuple, Optional, Sequence, Set
 
+from cms_canon._certificates import certificate_in
+
 from . import elsewhere
 from .containers.armour import blocks_of
 from .containers.files import beside
@@ -121,11 +123,9 @@ def _read(file: Path) -> bytes:
 
 def _certificates_of(octets: bytes) -> Iterator[bytes]:
     """Gives the certificates in PEM, or the one that these octets are."""
-    from cms_canon import verifier
-
     for it in blocks_of(octets, b"CERTIFICATE") or [octets]:
         with suppress(ValueError):
-            verifier._certificate(it)
+            certificate_in(it)
             yield it
 
 

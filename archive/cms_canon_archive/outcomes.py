@@ -6,8 +6,8 @@ from enum import IntEnum
 from typing import Iterable
 
 from .containers.found import State
-from .containers.names import READERS_DIFFER
-from .judging import MOST_LISTED, Facts
+from .containers.refused import IN_PLACE
+from .judging import NOT_ALL_TIMES, Facts
 
 
 class Outcome(IntEnum):
@@ -18,6 +18,10 @@ class Outcome(IntEnum):
     DIFFERS = 1
 
 
+DOUBTS = (  # what a note has if it is not known whether a message fits: one is enough
+    *("readers differ", "readers may differ", "readers do not show", "some readers take", "something else than zeros follows"),
+    *(NOT_ALL_TIMES, IN_PLACE),
+)
 _BY_WEIGHT = (Outcome.FITS, Outcome.NOT_KNOWN, Outcome.DIFFERS)
 
 
@@ -31,6 +35,6 @@ def outcome_of(facts: Facts) -> Outcome:
     signature that was to be verified is right."""
     if State.DIFFERS in (facts.state, *(it.state for it in facts.times)) or facts.verdict == "wrong":
         return Outcome.DIFFERS
-    is_known = facts.verdict != "unknown" and READERS_DIFFER not in facts.note and len(facts.times) < MOST_LISTED
+    is_known = facts.verdict != "unknown" and not any(it in facts.note for it in DOUBTS)
     is_known = is_known and all(it is State.FITS for it in (facts.state, *(it.state for it in facts.times)))
     return Outcome.FITS if is_known else Outcome.NOT_KNOWN

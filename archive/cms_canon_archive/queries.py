@@ -15,10 +15,9 @@ from .containers.manifests import WEAK_ALONE
 from .containers.names import READERS_DIFFER
 from .containers.refused import is_named
 from .filters import ALL, Filters
-from .judging import MOST_LISTED
-from .outcomes import Outcome
-from .reading import Row
-from .store import FILES, SIGNERS, TIMES, Store
+from .outcomes import DOUBTS, Outcome
+from .reading import READER, Row
+from .store import FILES, LOAD, SIGNERS, TIMES, Store
 from .tables import HISTORY, IS_TAKEN, IS_TO_DO, PARTS, PLACE_TIMES, PLACES, of_same_place, shown
 from .texts import folder_and_name
 
@@ -26,6 +25,9 @@ WEAK_DIGESTS = ("md5", "sha1")
 FEWEST_BITS = 2048  # of a key of RSA or DSA that is not weak
 
 
+_UNSIGNED = ("request", "certificates")  # the kinds of messages that nobody is to sign
+_NO_SIGNATURE = State.NO_SIGNATURE.value
+_OTHERS = (Class.OTHER.value, Class.NOT_LOOKED_INTO.value)
 _REFUSED = (Class.REFUSED.value, Class.DAMAGED.value, Class.TOO_LARGE.value)
 IS_UNREAD = FILES.c.what.in_((Class.DAMAGED.value, Class.TOO_LARGE.value, Class.UNREADABLE.value))
 
@@ -62,25 +64,26 @@ def totals(store: Store) -> Totals:
     """Counts what is in an index."""
     is_file = (PLACES.c.member == "").label("is_file")
     is_wrong = (sa.func.coalesce(PLACES.c.verdict, "") == "wrong").label("is_wrong")
-    groups = (PLACES.c.what, PLACES.c.state, is_file, is_wrong)
+    is_unsigned = PLACES.c.kind.in_(_UNSIGNED) & (sa.func.coalesce(PLACES.c.state, _NO_SIGNATURE) == _NO_SIGNATURE)
+    groups = (PLACES.c.what, PLACES.c.state, is_file, is_wrong, sa.func.coalesce(is_unsigned, sa.false()).label("is_unsigned"))
     rows = [
-        (row["what"], row["state"], bool(row["is_file"]), bool(row["is_wrong"]), int(row["count"]))
+        (row["what"], row["state"], bool(row["is_file"]), bool(row["is_wrong"]), bool(row["is_unsigned"]), int(row["count"]))
         for row in store.asked(sa.select(*groups, sa.func.count().label("count")).group_by(*groups))
     ]
     states: Dict[Optional[str], int] = {}
     wrong: Dict[Optional[str], int] = {}
-    for what, state, _, has_wrong, count in rows:
+    for what, state, _, has_wrong, _, count in rows:
         if what == Class.MESSAGE.value:
             states[state] = states.get(state, 0) + count
             wrong[state] = wrong.get(state, 0) + count * has_wrong
     fits, differ = states.get(State.FITS.value, 0), states.get(State.DIFFERS.value, 0)
     in_part = sum(states.get(it.value, 0) for it in GOOD) - fits
-    unsigned = states.get(None, 0) + states.get(State.NO_SIGNATURE.value, 0)
+    unsigned = sum(count for *_, nobody_signed, count in rows if nobody_signed)
     of_attributes = (PLACE_TIMES.c.number != "") & (PLACE_TIMES.c.state == State.DIFFERS.value)
     stamped = sa.select(PLACE_TIMES.c.part, PLACE_TIMES.c.file, PLACE_TIMES.c.member).where(of_attributes).distinct().subquery()
     (wrong_times,) = store.asked(sa.select(sa.func.count().label("count")).select_from(stamped))
     return Totals(
-        files=sum(count for *_, of_file, _, count in rows if of_file),
+        files=sum(count for *_, of_file, _, _, count in rows if of_file),
         messages=sum(states.values()),
         fit=fits - wrong.get(State.FITS.value, 0),
         in_part=in_part,
@@ -100,6 +103,12 @@ class Gaps(NamedTuple):
     """Folders and files that are yet to be read."""
     folders: int
     """Folders that could not be read, below which all is as it was before."""
+    missing: Sequence[str]
+    """Paths that the last index named, and that were not there."""
+    load: str
+    """Why the last `load` has not all that it was given; empty if it has."""
+    has_nothing: bool
+    """Whether no folder and no file was ever indexed."""
 
     def lines(self) -> Iterator[str]:
         """Gives a line for each kind of gap."""
@@ -109,6 +118,12 @@ class Gaps(NamedTuple):
         if self.folders:
             folders, them = ("folders", "them") if self.folders > 1 else ("folder", "it")
             yield f"{self.folders:,} {folders} could not be read, and what lies below is said as it was before: `cms-canon-archive refusals` names {them}"
+        for path in self.missing:
+            yield f"{path}: the last index named it, and it was not there"
+        if self.load:
+            yield f"the last `load` has not all that it was given: {self.load}"
+        if self.has_nothing:
+            yield "the index has nothing: `cms-canon-archive index` puts files in"
 
 
 def gaps(store: Store) -> Gaps:
@@ -116,7 +131,7 @@ def gaps(store: Store) -> Gaps:
     left = sum(int(row["count"]) for it in (IS_TO_DO, IS_TAKEN) for row in store.asked(sa.select(sa.func.count().label("count")).select_from(PARTS).where(it)))
     own = (PLACES.c.part == PARTS.c.id) & (PLACES.c.file == "") & (PLACES.c.member == "")
     (folders,) = store.asked(sa.select(sa.func.count().label("count")).select_from(PARTS.join(PLACES, own)).where(PARTS.c.name == ""))
-    return Gaps(left, int(folders["count"]))
+    return Gaps(left, int(folders["count"]), store.missing(), store.about().get(LOAD, ""), not any(store.asked(sa.select(PARTS.c.id).limit(1))))
 
 
 def is_known(store: Store, path: str) -> bool:
@@ -164,19 +179,27 @@ def changed(store: Store, filters: Filters = ALL) -> Iterator[Row]:
     return _files(store, filters, FILES.c.is_der.is_(False))
 
 
-_UNSIGNED = ("request", "certificates")  # the kinds of messages that nobody is to sign
 _IS_SIGNED = sa.func.coalesce(FILES.c.kind, "").not_in(_UNSIGNED)
 
 
+def _is_doubted(doubts: Sequence[str]) -> Any:
+    """Returns the condition that the note of a row in `FILES` has one of these doubts."""
+    return sa.or_(*(sa.func.coalesce(FILES.c.note, "").contains(it) for it in doubts))
+
+
+_IS_OLDER = sa.func.coalesce(FILES.c.reader, 0) != READER  # read by a release that may have seen something else
+
+
 def _outcome() -> Any:
-    """Returns the outcome of a message in `FILES`, as `outcome_of` has it; of one that nobody is to sign, that it fits if nothing differs."""
+    """Returns the outcome of a message in `FILES`, as `outcome_of` has it; of one that nobody is to sign, that it fits if nothing differs and all readers see
+    the same."""
     own = sa.select(PLACE_TIMES.c.state).where(of_same_place(PLACE_TIMES, FILES)).correlate(FILES)
-    weight = sa.case((PLACE_TIMES.c.state == State.FITS.value, 1), else_=MOST_LISTED)  # so that one look at the time-stamps says whether all fit, and all are stored
-    all_times = sa.func.coalesce(own.with_only_columns(sa.func.sum(weight)).scalar_subquery(), 0) < MOST_LISTED
-    is_one = sa.not_(sa.func.coalesce(FILES.c.note, "").contains(READERS_DIFFER))
+    all_times = ~own.where(sa.func.coalesce(PLACE_TIMES.c.state, "") != State.FITS.value).exists()
+    is_one = sa.not_(_is_doubted(DOUBTS))
+    is_one = is_one & sa.not_(_IS_OLDER)
     fits = (FILES.c.state == State.FITS.value) & sa.func.coalesce(FILES.c.verdict, "").not_in(("wrong", "unknown")) & is_one & all_times
     differs = (FILES.c.state == State.DIFFERS.value) | (FILES.c.verdict == "wrong") | own.where(PLACE_TIMES.c.state == State.DIFFERS.value).exists()
-    known = ((fits, int(Outcome.FITS)), (differs, int(Outcome.DIFFERS)), (sa.not_(_IS_SIGNED), int(Outcome.FITS)))
+    known = ((fits, int(Outcome.FITS)), (differs, int(Outcome.DIFFERS)), (sa.not_(_IS_SIGNED) & is_one, int(Outcome.FITS)))
     return sa.case(*known, else_=int(Outcome.NOT_KNOWN))
 
 
@@ -189,7 +212,7 @@ def checked(store: Store, all_of_them: bool, filters: Filters = ALL) -> Iterator
     of_message = of_same_place(PLACE_TIMES, FILES) & (PLACE_TIMES.c.state == State.DIFFERS.value)
     wrong = sa.select(sa.func.count()).select_from(PLACE_TIMES).where(of_message).correlate(FILES).scalar_subquery()
     is_well = (outcome == int(Outcome.FITS)) & (sa.func.coalesce(FILES.c.findings, "") == "")
-    asked = is_message if all_of_them else is_message & _IS_SIGNED & sa.not_(is_well)
+    asked = is_message if all_of_them else is_message & (_IS_SIGNED | (outcome != int(Outcome.FITS))) & sa.not_(is_well)
     rows = sa.select(*shown(FILES), wrong.label("wrong_times"), outcome.label("outcome")).where(asked).order_by(FILES.c.path, FILES.c.member)
     return store.asked(filters.of(rows, FILES))
 
@@ -208,6 +231,10 @@ class Unknown(NamedTuple):
     """What is damaged, too large or cannot be read, and what is refused and not said to be something else."""
     differing: int
     """What else some readers take otherwise."""
+    others: int
+    """What is signed by another format, or is not looked into."""
+    older: int
+    """What else was read by another release."""
 
     def lines(self) -> Iterator[str]:
         """Gives a line for each kind."""
@@ -217,20 +244,27 @@ class Unknown(NamedTuple):
         if self.differing:
             what, them = ("files or members are", "them") if self.differing > 1 else ("file or member is", "it")
             yield f"{self.differing:,} {what} taken otherwise by some readers: `cms-canon-archive files --all` lists {them}"
+        if self.others:
+            what, them = ("files or members are", "them") if self.others > 1 else ("file or member is", "it")
+            yield f"{self.others:,} {what} signed by another format, or not looked into: `cms-canon-archive others` lists {them}"
+        if self.older:
+            what, them = ("files or members were", "them") if self.older > 1 else ("file or member was", "it")
+            yield f"{self.older:,} {what} read by another release: `cms-canon-archive index` reads {them} again"
 
 
 def unknown(store: Store, filters: Filters = ALL) -> Unknown:
     """Counts what is no message as far as is known, and may have some."""
     is_folder = (FILES.c.of_file == "") & sa.exists().where(PARTS.c.id == FILES.c.of_part, PARTS.c.name == "").correlate(FILES)
-    is_refused, differs = FILES.c.what == Class.REFUSED.value, sa.func.coalesce(FILES.c.note, "").contains(READERS_DIFFER)
-    is_one = IS_UNREAD | is_refused | differs & (FILES.c.what != Class.MESSAGE.value)
-    kinds = ((IS_UNREAD, "unread"), (differs, "differing"), (is_refused, "refused"))
+    is_refused, differs = FILES.c.what == Class.REFUSED.value, _is_doubted((READERS_DIFFER,))
+    is_other = FILES.c.what.in_(_OTHERS)
+    is_one = IS_UNREAD | is_refused | is_other | _IS_OLDER | differs & (FILES.c.what != Class.MESSAGE.value)
+    kinds = ((IS_UNREAD, "unread"), (_IS_OLDER, "older"), (differs & (FILES.c.what != Class.MESSAGE.value), "differing"), (is_other, "others"), (is_refused, "refused"))
     kind, note = sa.case(*kinds, else_="").label("kind"), sa.case((is_refused & ~differs, sa.func.coalesce(FILES.c.note, "")), else_="").label("note")
     asked = sa.select(kind, note, sa.func.count().label("count")).where(is_one, sa.not_(is_folder)).group_by(kind, note)
     counts: Counter[str] = Counter()
     for row in store.asked(filters.where(asked, FILES)):
         counts[str(row["kind"])] += int(row["count"]) * (row["kind"] != "refused" or not is_named(str(row["note"])))
-    return Unknown(counts["unread"] + counts["refused"], counts["differing"])
+    return Unknown(counts["unread"] + counts["refused"], counts["differing"], counts["others"], counts["older"])
 
 
 IS_NOTED = (FILES.c.what == Class.MESSAGE.value) & (FILES.c.state == State.FITS.value) & (sa.func.coalesce(FILES.c.note, "") != "")
@@ -320,9 +354,6 @@ def _counted(store: Store, filters: Filters, table: Any, column: str, name: str,
 def times(store: Store, filters: Filters = ALL) -> Iterator[Row]:
     """Gives the times that tokens vouch for, as messages and in unsigned attributes."""
     return store.asked(filters.of(_joined(TIMES), TIMES))
-
-
-_OTHERS = (Class.OTHER.value, Class.NOT_LOOKED_INTO.value)
 
 
 def others(store: Store, filters: Filters = ALL) -> Iterator[Row]:

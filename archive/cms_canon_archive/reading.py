@@ -19,12 +19,13 @@ from .containers.found import Class, Content, Found, Octets, State
 from .containers.packed import ENDINGS, PACKINGS, name_inside, why_of
 from .containers.sources import DEEPEST, TooMuch
 from .judging import NOT_VERIFIED, Facts, Signer, Time, Verification, judged
+from .outcomes import DOUBTS
 from .texts import LONGEST, cut, path_text_of, text_of
 
 Row = Dict[str, Any]  # of a store, or a line of `rows`
 Values = Tuple[Any, ...]
 
-READER = 6  # raised with each change of the command or the library by which a file would get other rows, and with no other
+READER = 7  # raised with each change of the command or the library by which a file would get other rows, and with no other
 MOST = (1 << 63) - 1  # the largest number that a store takes
 DIGESTS = ("digest", "sha256", "verified_by")  # the values of a place that are a SHA-256
 NO_PATH = "no path is named so"
@@ -172,9 +173,19 @@ def _of_time(time: Time) -> Values:
     return tuple(it.value if type(it) is State else cut(it) if type(it) is str else it for it in time)
 
 
+def _note_text(note: str) -> str:
+    """Returns a note as a store has it: from its first doubt on, if that would be lost as a long one is cut."""
+    text = text_of(note)
+    doubt = next((it for it in DOUBTS if it in note), None)
+    if doubt is None or any(it in text for it in DOUBTS):
+        return text
+    at = note.index(doubt)
+    return text_of(f"{note[at:]}; {note[:at]}")
+
+
 def read_of(entry: Entry, found: Found, facts: Facts, how: Verification = NOT_VERIFIED) -> Read:
     """Returns what is to be stored of what was found in a file. `facts` is what is known of it."""
-    note = text_of(facts.note) if facts.note else ""
+    note = _note_text(facts.note) if facts.note else ""
     latest = max(entry.changed, int(entry.beside.split(":")[1])) if entry.beside else entry.changed
     place = Place(
         text_of(found.where) if found.where else "",

@@ -30,12 +30,14 @@ from .texts import chunk_of, folder_and_name
 __all__ = ["FILES", "SIGNERS", "TIMES", "NoStore", "Store", "is_row", "url_of", "without_password"]
 
 ASKED = 900  # rows that are in memory at once, or paths in a statement: SQLite before 3.32 takes 999 values
-MOST_PATHS = 100  # that a store names as indexed
+MOST_PATHS = 100  # that a store names as indexed, or as not there
+MISSING = "not there"  # the name under which a store has the paths that the last index named and that were not there
 TRIES = 8  # of a transaction that another command is in the way of
 MOST_INTEGER = (1 << 31) - 1  # the largest number of a column that is not of large ones
 _PASSING = ("40P01", "40001", "23505", "42P07")  # a deadlock, another order of transactions, a row or a table that is there meanwhile
 _NO_TEXT = re.compile("[\0-\x1f\x7f-\x9f\ud800-\udfff]")
 _UNENDED = "its reading has not ended"
+LOAD = "load"  # the name under which a store has why the last load has not all that it was given
 T = TypeVar("T")
 
 
@@ -185,6 +187,10 @@ class Store:
     def paths(self) -> List[str]:
         """Returns the texts of the paths that were indexed."""
         return [str(it) for it in json.loads(self.about().get("paths", "[]"))]
+
+    def missing(self) -> List[str]:
+        """Returns the texts of the paths that the last index named and that were not there."""
+        return [str(it) for it in json.loads(self.about().get(MISSING, "[]"))]
 
     def note(self, noted: Dict[str, str]) -> None:
         """Notes what is to be said of the store."""

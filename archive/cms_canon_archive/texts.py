@@ -87,6 +87,11 @@ def size_of(octets: int) -> str:
     return f"{digits.replace('.0', '')}\xa0{unit}"
 
 
+def counted(count: int, what: str) -> str:
+    """Returns a number of things with the word for one of them, as `1 file` or `2 files`."""
+    return f"{count:,} {what}{'' if count == 1 else 's'}"
+
+
 def folder_and_name(path: str) -> Tuple[str, str]:
     """Returns the path of a folder with its slash, and the name of what lies in it."""
     end = path.rindex("/") + 1

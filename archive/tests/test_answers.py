@@ -316,7 +316,7 @@ def test_release(home, archive, make):
         said = command_says(home, "index", folder, "--store", "release.db")
         count_if(f"rows with {statement}", said.startswith(f"{wanted} files read, {len(members) - wanted} unchanged"), said)
     released = home / "wheels"
-    for wheel in (TOP / "dist" / "packages").glob("cms_canon*.whl"):
+    for wheel in (it for it in (TOP / "dist" / "packages").glob("cms_canon*.whl") if "aarch64" not in it.name):
         with zipfile.ZipFile(wheel) as packed:
             packed.extractall(released)
     rows = [[json.loads(line) for line in ran(at, "rows", folder).stdout.splitlines()] for at in (released, home)]

@@ -155,7 +155,7 @@ def test_kills(home, folder, made):
     count_if("killed and resumed", store_of(url) == whole and has_index, "another store")
 
 
-def test_queries(home, files, made):
+def test_queries(home, archive, files, made):
     url = made.url
     groups = grouped((one.digest, name) for name, one in sorted(files.items()) if one.digest)
     twice = {digest: names for digest, names in groups.items() if len(names) > 1}
@@ -166,6 +166,9 @@ def test_queries(home, files, made):
     count_same("the table of refusals", {name: " at ".join((why.split()[0], why.split()[-1])) for name, why in table.items()}, refusals)
     changed = {it["file"] for it in lines_of(home, "changed", "--store", url)}
     count_same("changed", changed, {name for name, one in files.items() if one.is_der is False})
+    counts = {it["file"]: it["changes"] for it in lines_of(home, "changed", "--count", "--store", url)}
+    count_same("changed --count", counts, {name: len(archive.cms_canon.changes(files[name].octets)) for name in changed})
+    count_if("each has a change", all(counts.values()), counts)
     name = next(it for names in twice.values() for it in names if "!" not in it and "\\" not in it)
     count_same("same", sorted({it["file"] for it in lines_of(home, "same", name, "--store", url)}), twice[files[name].digest])
 
@@ -222,7 +225,7 @@ def test_changes(home, made):
     unchanged = sum(row.member == "" for row in store_of(url)) - 2
     said = command_says(home, "index", folder, "--store", url)
     count("changes", differs_from(files, store_of(url)))
-    count_same("unchanged files", said.splitlines()[0], f"2 files read, {unchanged} unchanged, 1 gone: `cms-canon-archive changes` names it")
+    count_same("unchanged files", said.splitlines()[0], f"2 files read, {unchanged:,} unchanged, 1 gone: `cms-canon-archive changes` names it")
     # A file that has become another message since it was indexed is not exported by the digest that is stored.
     stale = next(name for name, one in files.items() if one.digest and "!" not in name and "\\" not in name)
     Path(stale).write_bytes(next(one.octets for one in files.values() if one.digest not in (None, files[stale].digest)))
@@ -285,7 +288,7 @@ def test_absent(home, folder, made):
     """A path that is not there, or is neither file nor folder, is said so, and nothing is dropped; so is a store that is not there."""
     os.mkfifo(home / "pipe")
     away = folder.rename(folder.with_name("away"))
-    said = ended(home, "index", folder, home / "pipe", "", "--store", made.url)
+    said = ended(home, "index", folder, home / "pipe", home / "nowhere", "--store", made.url)
     is_said = said.returncode == 1 and said.stderr.count("there is no file or folder of this name") == 2 and "pipe: it is a FIFO" in said.stderr
     count_if("what is not there", is_said, said)
     more = set(store_of(made.url)) ^ set(made.whole)

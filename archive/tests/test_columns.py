@@ -22,11 +22,11 @@ TABLES = "Columns of tables"
 WRITTEN_BY = {  # what writes the keys of each part of the section: words of the command, and the list in its rows whose keys they are
     "Places": (
         "rows archive", "inspect archive/doc.p7s", "check archive/doc.p7s", "check --all", "files --all", "others", "same archive/doc.p7s", "refusals",
-        "changed",
+        "changed", "changed --count",
     ),
     "Signers": ("signers", "rows archive:signed_by"), "Times": ("times", "rows archive:times"), "Algorithms": ("algorithms", "algorithms --weak"),
     "Copies": ("duplicates", "duplicates --of digests"), "Differences": ("verify-store",), "Changes": ("changes",), "Renewal": ("renewal --by 2030-12-31",), "Progress": ("progress",), "Workers": ("progress:workers",),
-    "Totals": ("index archive --jobs 1 --store other.db",), "Copying": ("convert archive --to copies", "export --to exported", "show archive/doc.p7s"),
+    "Totals": ("index archive --jobs 1 --store other.db",), "Copying": ("convert archive --to copies", "export --to exported", "show archive/doc.p7s", "changes-of archive/ber.p7m"),
 }
 ALSO = {"Algorithms": ("Signers", "Times")}  # whose keys rows of the former may have too
 ARGUMENTS = {"same": "same archive/doc.p7s", "renewal": "renewal --by 2030-12-31", "duplicates --of": "duplicates --of digests"}  # what a table needs

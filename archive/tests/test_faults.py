@@ -651,7 +651,10 @@ LEFT_OUT = {  # by workers with faults: what verify-store finds, for which folde
     "without_chunks": {"03/": "not all of its 7 parts are there"},
     "parts_of_nothing": {"nothing 7": "it is not there any more"},
     "files_that_are_not_there": {"nowhere": "it is not there any more"},
-    "other_signers": {"members.tar!102.p7s": "its signers are stored otherwise"},
+    "other_signers": {
+        "members.tar!102.p7s": "its signers are stored otherwise, its times are stored otherwise",
+        "members.tar!106.p7s": "its signers are stored otherwise",
+    },
 }
 FALSE = ("files_that_are_not_there", "other_signers")  # which only an index that reads all anew puts right
 
@@ -904,7 +907,7 @@ def test_divided(case):
         found, chunks = asked(url, "SELECT path FROM files"), asked(url, "SELECT count(*), max(chunks) FROM parts")[0]
         is_whole = sorted(it[0] for it in found) == sorted(str(folder / f"{it}") for it in range(files))
         came.append((is_whole, tuple(chunks), said.split(", ")[2].split()[0]))
-    wanted = [(True, (1, 1), "0"), (True, (2, 2), "0"), (True, (15, 15), "0"), (True, (15, 15), "1000")]
+    wanted = [(True, (1, 1), "0"), (True, (2, 2), "0"), (True, (15, 15), "0"), (True, (15, 15), "1,000")]
     count_same("a folder that is divided", came, wanted)
 
 

@@ -185,7 +185,7 @@ def test_input_that_cannot_be_copied(home, folder):
 def test_time_stamps_in_attributes():
     """Only if each time-stamp in a message was compared is everything known: another state of one is not, and one that differs is wrong."""
     from cms_canon_archive.containers.found import Class, Found, State
-    from cms_canon_archive.judging import MOST_LISTED, Facts, Time
+    from cms_canon_archive.judging import Facts, Time
     from cms_canon_archive.one_file import Judged
 
     def status(*states):
@@ -195,7 +195,6 @@ def test_time_stamps_in_attributes():
     for it in State:
         wanted = {State.FITS: FITS, State.DIFFERS: DIFFERS}.get(it, NOT_KNOWN)
         count_same(f"a time-stamp that is: {it.value}", status(State.FITS, it), wanted)
-    count_same("as many as are looked at", (status(*[State.FITS] * (MOST_LISTED - 1)), status(*[State.FITS] * MOST_LISTED)), (FITS, NOT_KNOWN))
 
 
 def test_bad_words(home, folder):

@@ -100,7 +100,7 @@ def test_totals(shared_home, folder):
     wanted = {"read": 0, "unchanged": 9, "gone": 0, "files": 9, "messages": 6, "fit": 2, "in_part": 0, "differ": 1, "wrong": 0, "wrong_times": 0, "unjudged": 1, "refused": 1, "unreadable": 0}
     count_same("what index says in JSON", row, wanted)
     names = [it["file"].rpartition("/")[2] for it in lines_of(shared_home, "check", "--store", "said.db", status=1)]
-    count_same("check lists what is signed", sorted(names), ["alone.p7s", "wrong.p7s"])
+    count_same("check lists what is signed", sorted(names), ["alone.p7s", "unsigned.p7s", "wrong.p7s"])
     names = [it["file"].rpartition("/")[2] for it in lines_of(shared_home, "check", "--all", "--store", "said.db", status=1)]
     count_same("check --all lists all", sorted(names), ["alone.p7s", "attached.p7m", "doc.p7s", "query.tsq", "unsigned.p7s", "wrong.p7s"])
 

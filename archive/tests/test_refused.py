@@ -18,6 +18,7 @@ pytestmark = [pytest.mark.archive, needs("click", "tqdm", "sqlalchemy", "cryptog
 CERTIFICATE, LIST, REQUEST = "a certificate (X.509)", "a certificate list (CRL)", "a certificate request (PKCS #10)"
 OF_PKCS8, OF_PKCS1, OF_EC, ENCRYPTED = "a private key (PKCS #8)", "a private key (PKCS #1)", "a private key (SEC 1)", "an encrypted private key (PKCS #8)"
 OF_PKCS12, OCSP = "a file of keys or certificates (PKCS #12)", "an OCSP response"
+IN_PLACE = ", in place of a signature"
 OF_LABEL = "PEM, and the label of its first block is "
 SECRET = "-secretkey 00112233445566778899aabbccddeeff -aes128"
 MESSAGES = {  # by the words of `openssl cms` that make them
@@ -69,11 +70,11 @@ def folder(shared_home, make, named_as):
     envelope, certificate = (named_as[it][0] for it in ("an encrypted message (CMS EnvelopedData)", "certificate"))
     files = {
         **{f"{name}.der": it for name, it in named_as.items()},
-        "pem.p7s": (public, f"PEM, and its first block is {CERTIFICATE}"),
-        "key and certificate.p7s": (private + public, f"PEM, and its first block is {OF_PKCS8}"),
-        "encrypted key.p7s": (key, f"{OF_LABEL}RSA PRIVATE KEY"),
+        "pem.p7s": (public, f"PEM, and its first block is {CERTIFICATE}{IN_PLACE}"),
+        "key and certificate.p7s": (private + public, f"PEM, and its first block is {OF_PKCS8}{IN_PLACE}"),
+        "encrypted key.p7s": (key, f"{OF_LABEL}RSA PRIVATE KEY{IN_PLACE}"),
         "envelope.pem": (b"-----BEGIN CMS-----\n" + base64.encodebytes(envelope) + b"-----END CMS-----\n", "an encrypted message (CMS EnvelopedData)"),
-        "base64.p7s": (base64.encodebytes(certificate), CERTIFICATE), "text.p7s": (b"some text", ""), "zeros.p7s": (bytes(100), ""),
+        "base64.p7s": (base64.encodebytes(certificate), f"{CERTIFICATE}{IN_PLACE}"), "text.p7s": (b"some text", ""), "zeros.p7s": (bytes(100), ""),
         "cut.der": (certificate[:-1], ""), "longer.der": (certificate + b"\0", ""), "large.p7s": (b"-----BEGIN CERTIFICATE-----\n" + bytes(1 << 20), ""),
     }
     write_files(shared_home / "refused", {name: octets for name, (octets, _) in files.items()})
@@ -115,14 +116,13 @@ def changed_in_structure(octets):
 
 
 def test_names(archive, named_as):
-    """What is changed has its own name or none; what is cut has none, but for messages, which are known by how they begin."""
+    """What is changed has its own name or none; what is cut, or has something after it, has none."""
     named = archive.refused.named
     for name, (octets, said) in named_as.items():
         count_same(f"{name}: its name", named(octets), said)
         others = {named(it) for it in changed_in_structure(octets)} - {said, ""}
         count_same(f"{name}, changed", others, set())
-        cut = {named(octets[:it]) for it in range(len(octets))} - {""}
-        count_same(f"{name}, cut", cut - ({said} if said in {*MESSAGES, *CONTENT_TYPES.values(), OF_PKCS12} else set()), set())
+        count_same(f"{name}, cut, or with more", {named(it) for it in (*(octets[:it] for it in range(len(octets))), octets + b"\0", octets + octets)}, {""})
 
 
 ALGORITHM = element(0x30, element(0x06, b"\x2a\x03"))

@@ -123,6 +123,9 @@ def test_files(home, folder, made, place):
     shown = command(home, "show", folder / "one.pdf")
     count_if("show", shown.startswith(f"{folder}/one.pdf!{place}\nkind: signed-data\n"), shown[:200])
     count_same("show, no message", command_says(home, "show", folder / "text.txt", status=1), f"{folder}/text.txt: there is no message\n")
+    changed = command(home, "changes-of", folder / "one.pdf")
+    count_if("changes-of", changed.startswith(f"{folder}/one.pdf!{place}\n") and changed.endswith((" change\n", " changes\n", "no change\n")), changed[:200])
+    count_same("changes-of, no message", command_says(home, "changes-of", folder / "text.txt", status=1), f"{folder}/text.txt: there is no message\n")
     (row,) = lines_of(home, "show", folder / "one.pdf")
     count_same("show --json", (row["file"], row["message"]["kind"], row["why_not"]), (f"{folder}/one.pdf!{place}", "signed-data", None))
     none = [{"file": f"{folder}/text.txt", "why_not": "there is no message"}]
@@ -337,7 +340,7 @@ def test_old_stores(home, folder):
         with sqlite3.connect(home / name) as connection:
             connection.executescript(script)
     came = {Path(it["file"]).name: it["state"] for it in lines_of(home, "check", "--store", "old asked.db", status=3)}
-    count_same("a store of 0.4.0 that is asked", came, {"doc.bin.p7s": None, "doc.tst": None})
+    count_same("a store of 0.4.0 that is asked", came, {"doc.bin.p7s": None, "doc.tst": None, "q.tsq": None})
     command(home, "index", folder, "--store", old, status=3)
     count_same("a store of 0.4.0 that is indexed", of_first(old), FIRST_STORE_SAYS)
     asked(old, "UPDATE about SET value = '6' WHERE name = 'schema'")

@@ -23,9 +23,9 @@
  * writes. cms_canon_fields says with one reading where all fields of all signers are; a verifier that asks for the cover of each
  * signer in turn takes time in proportion to the square of their number.
  *
- * No pointer may be NULL, even with a length of 0. `output`, `findings`, `fields`, `pieces`, `asked`, `outcome`, `many` and `extent`
- * must not overlap one another or an input. A call must not be made from a signal handler, or from the forked child of a process
- * with several threads.
+ * No pointer may be NULL, even with a length of 0. `output`, `findings`, `fields`, `pieces`, `changes`, `asked`, `outcome`, `many` and
+ * `extent` must not overlap one another or an input. A call must not be made from a signal handler, or from the forked child of a
+ * process with several threads.
  */
 #ifndef CMS_CANON_H
 #define CMS_CANON_H
@@ -462,6 +462,64 @@ struct cms_canon_piece {
  */
 void cms_canon_pieces(const uint8_t *input, size_t input_length, uint64_t limit,
                       struct cms_canon_piece *pieces, size_t pieces_room, struct cms_canon_outcome *outcome);
+
+/* What is changed, and what `first` and `second` are then. */
+enum cms_canon_change_kind {
+    CMS_CANON_LENGTH_MADE_DEFINITE = 1,       /* a header: its length is indefinite in the input; the new length, and the place in
+                                                 the input of the end-of-contents octets, which are left out */
+    CMS_CANON_LENGTH_IN_FEWEST_OCTETS = 2,    /* a header: its length has more octets than it needs; the old length and the new */
+    CMS_CANON_LENGTH_OF_WHAT_IS_INSIDE = 3,   /* a header: its contents have another length; the old length and the new */
+    CMS_CANON_SEGMENTS_JOINED = 4,            /* a string in segments: how many primitive segments, and how many octets in them */
+    CMS_CANON_MOVED = 5,                      /* a member of the set `set`: its old number and its new one, both from 0 */
+    CMS_CANON_BOOLEAN = 6,                    /* the contents octet of a BOOLEAN: the old octet, and FF */
+    CMS_CANON_DEFAULT_OMITTED = 7,            /* a field that has its default value, and is left out: 0 and 0 */
+    CMS_CANON_TRAILING_ZERO_BITS_REMOVED = 8, /* a BIT STRING with named bits: how many bits it had and has */
+    CMS_CANON_UNUSED_BITS_SET_TO_ZERO = 9     /* a BIT STRING with named bits: how many bits it has, twice */
+};
+
+/* The sets whose members are moved, by the names of RFC 5652. */
+enum cms_canon_set {
+    CMS_CANON_DIGEST_ALGORITHMS = 1,
+    CMS_CANON_CERTIFICATES = 2,
+    CMS_CANON_CRLS = 3,
+    CMS_CANON_SIGNER_INFOS = 4,
+    CMS_CANON_UNSIGNED_ATTRS = 5,
+    CMS_CANON_ATTR_VALUES = 6
+};
+
+/* A change from a message to its DER. Places are in octets, from 0. */
+struct cms_canon_change {
+    uint64_t kind;       /* an enum cms_canon_change_kind */
+    uint64_t place;      /* where what is changed begins in the input: as `kind` says a header, an octet, or else a whole element */
+    uint64_t length;     /* how many octets it has there */
+    uint64_t der_place;  /* where it begins in the DER; if it is left out, where it would */
+    uint64_t der_length; /* how many octets it has there: 0 if it is left out */
+    uint64_t first;      /* as `kind` says */
+    uint64_t second;     /* as `kind` says */
+    uint64_t set;        /* an enum cms_canon_set if a member of one is moved, else 0 */
+};
+
+/*
+ * Writes what cms_canon_convert changes in the message in `input`, to the array `changes`, which has room for `changes_room` of
+ * them, in the order of their places in `input`. `octets` of the outcome says how many changes there are, and not octets: 0 if the
+ * message is its own DER.
+ *
+ * The octets that a change names lie in `input`, and in the DER that cms_canon_convert writes. If a string is in segments, what is
+ * changed of its headers is part of that change.
+ *
+ * The message and its DER may have at most `limit` octets each.
+ */
+void cms_canon_changes(const uint8_t *input, size_t input_length, uint64_t limit,
+                       struct cms_canon_change *changes, size_t changes_room, struct cms_canon_outcome *outcome);
+
+/*
+ * Lists these changes as the command `changes` does, in UTF-8: a line for each, and one that counts them and the octets, each ended by
+ * a line feed; or, if `json` is true, one JSON object and a line feed. No zero follows the text.
+ *
+ * There is no room that always suffices: the outcome says how much is needed.
+ */
+void cms_canon_list_changes(const uint8_t *input, size_t input_length, bool json, uint64_t limit,
+                            uint8_t *output, size_t output_room, struct cms_canon_outcome *outcome);
 
 #ifdef __cplusplus
 }

@@ -8,10 +8,11 @@ _cms_canon() {
         --signer) return ;;
     esac
     case $COMP_CWORD:${COMP_WORDS[1]}:$word in
-        1:*) words='convert show check cover same help --help --version' ;;
-        2:help:*) words='convert show check cover same' ;;
+        1:*) words='convert show changes check cover same help --help --version' ;;
+        2:help:*) words='convert show changes check cover same' ;;
         *:convert:-*) words='--many --help' ;;
         *:show:-*) words='--help' ;;
+        *:changes:-*) words='--json --help' ;;
         *:check:-*) words='--content --data --help' ;;
         *:cover:*) words='--signer --content --help' ;;
         *:same:-*) words='--help' ;;

@@ -17,7 +17,7 @@ from .tools import run
 WEB = TOP / "web"
 MODULE = "cms_canon.wasm"
 PAGE = "cms-canon.html"
-IN_PACKAGE = ("README.md", "cms_canon.d.mts", "cms_canon.mjs")
+IN_PACKAGE = ("README.md", "changes.mjs", "cms_canon.d.mts", "cms_canon.mjs")
 BROWSERS = "chrome87,firefox79,safari15"  # which have what the module needs: whole numbers of 64 bits in calls, and memory that is copied at once
 JOINED = ("--bundle", "--charset=utf8", "--minify", f"--target={BROWSERS}", "--external:node:*", "--log-level=error", "--legal-comments=none")
 DESCRIPTION = {

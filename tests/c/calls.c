@@ -1,7 +1,7 @@
 /*
  * Checks of the calls of the library for C that the vectors do not make: rooms that are too small, messages one after another,
- * extents, octets, findings, rows and pieces around the output, lengths of 0, limits, paths, parts, fields, digests, and four threads
- * at once.
+ * extents, octets, findings, rows, pieces and changes around the output, lengths of 0, limits, paths, parts, fields, digests, and four
+ * threads at once.
  * Prints a line for each failed check, and how many passed and failed.
  */
 #define CMS_CANON_DEPRECATED /* cms_canon_part is checked as long as it is there */
@@ -361,6 +361,55 @@ static void check_pieces(void)
     check("no pieces on a refusal", memcmp(pieces, guards, sizeof guards) == 0);
 }
 
+/* What conversion changes in it. */
+static const struct cms_canon_change changes_of_message[] = {
+    {CMS_CANON_LENGTH_MADE_DEFINITE, 0, 2, 0, 2, 42, 58, 0},
+    {CMS_CANON_LENGTH_MADE_DEFINITE, 13, 2, 13, 2, 29, 56, 0},
+    {CMS_CANON_LENGTH_MADE_DEFINITE, 15, 2, 15, 2, 27, 54, 0},
+    {CMS_CANON_LENGTH_MADE_DEFINITE, 22, 2, 22, 2, 18, 50, 0},
+    {CMS_CANON_LENGTH_MADE_DEFINITE, 35, 2, 35, 2, 5, 48, 0},
+    {CMS_CANON_SEGMENTS_JOINED, 37, 11, 37, 5, 2, 3, 0}};
+enum { CHANGES = sizeof changes_of_message / sizeof changes_of_message[0] };
+
+static void check_changes(void)
+{
+    struct cms_canon_change changes[CHANGES + 3], guards[CHANGES + 3];
+    struct cms_canon_outcome outcome;
+    memset(guards, GUARD, sizeof guards);
+    for (size_t room = 0; room <= CHANGES + 3; room++) {
+        memcpy(changes, guards, sizeof changes);
+        cms_canon_changes(message, sizeof message, CMS_CANON_LIMIT, changes, room, &outcome);
+        bool fits = room >= CHANGES;
+        check("status by the room for changes", outcome.status == (fits ? CMS_CANON_DONE : CMS_CANON_ROOM_TOO_SMALL));
+        check("how many changes", outcome.octets == CHANGES && outcome.reason == 0 && outcome.at == 0 && outcome.name[0] == 0);
+        check("the changes", !fits || memcmp(changes, changes_of_message, sizeof changes_of_message) == 0);
+        check("changes that are not written", memcmp(changes + (fits ? CHANGES : 0), guards, (fits ? 3 : CHANGES + 3) * sizeof *guards) == 0);
+    }
+    memcpy(changes, guards, sizeof changes);
+    cms_canon_changes(der, sizeof der, CMS_CANON_LIMIT, changes, CHANGES, &outcome);
+    check("DER has no changes", outcome.status == CMS_CANON_DONE && outcome.octets == 0);
+    cms_canon_changes(message, 0, CMS_CANON_LIMIT, changes, CHANGES, &outcome);
+    check("changes of no octets", outcome.status == CMS_CANON_REFUSED && outcome.reason == 1 && outcome.at == 0 && outcome.octets == 0);
+    cms_canon_changes(message, sizeof message, sizeof message - 1, changes, CHANGES, &outcome);
+    check("a limit of changes", outcome.status == CMS_CANON_REFUSED && outcome.reason == 2 && strcmp(outcome.name, "TooLarge") == 0);
+    check("no changes on a refusal", memcmp(changes, guards, sizeof guards) == 0);
+}
+
+static void check_list_of_changes(bool json, const char *text)
+{
+    uint8_t output[4096];
+    struct cms_canon_outcome outcome;
+    memset(output, GUARD, sizeof output);
+    cms_canon_list_changes(message, sizeof message, json, CMS_CANON_LIMIT, output, 0, &outcome);
+    check("no room for a list of changes", outcome.status == CMS_CANON_ROOM_TOO_SMALL && outcome.octets < sizeof output);
+    uint64_t length = outcome.octets;
+    cms_canon_list_changes(message, sizeof message, json, CMS_CANON_LIMIT, output, length, &outcome);
+    check("a list of changes", outcome.status == CMS_CANON_DONE && outcome.octets == length && memcmp(output, text, strlen(text)) == 0
+                                   && output[length - 1] == '\n' && is_all(output, length, sizeof output, GUARD));
+    cms_canon_list_changes(message, sizeof message, json, sizeof message - 1, output, sizeof output, &outcome);
+    check("a limit of a list of changes", outcome.status == CMS_CANON_REFUSED && outcome.reason == 2);
+}
+
 /* A TSTInfo without optional fields, its genTime at the beginning of 2026. */
 static const uint8_t tst_info[] = {0x30, 0x27, 0x02, 0x01, 0x01, 0x06, 0x03, 0x2a, 0x03, 0x04, 0x30, 0x09, 0x30, 0x05,
                                    0x06, 0x03, 0x2a, 0x03, 0x04, 0x04, 0x00, 0x02, 0x01, 0x05, 0x18, 0x0f, '2',  '0',
@@ -573,6 +622,10 @@ int main(void)
     check_digests();
     check_fields();
     check_pieces();
+    check_changes();
+    check_list_of_changes(false, "at 0 length made definite: 30 80 -> 30 2a\n");
+    check_list_of_changes(true, "{\"changes\": [{\"change\": \"length made definite\", \"at\": 0, ");
+    check("the size of a change", sizeof(struct cms_canon_change) == 64);
     check_tst_info();
     check_comparisons();
     check_listing();

@@ -5,11 +5,13 @@ import struct
 from typing import NamedTuple
 
 from programs import RELEASE
+from listed_changes import Change
 from walk import Row
 
 LIMIT = 1 << 28
 ROW = struct.Struct("=QQII")
 PIECE = struct.Struct("=QQQ")
+CHANGE = struct.Struct("=8Q")
 UNTOUCHED = b"\xa5"
 
 
@@ -41,6 +43,10 @@ class Answer(NamedTuple):
         """Where each piece lies, how long it is, and whether it is made."""
         return [(place, length, made == 1) for place, length, made in PIECE.iter_unpack(self.output)]
 
+    @property
+    def changes(self):
+        return [Change(*it) for it in CHANGE.iter_unpack(self.output)]
+
 
 def words_of(octets):
     return octets, ctypes.c_size_t(len(octets))
@@ -58,7 +64,7 @@ class Library:
 
     def asked(self, name, room, *words, size=1):
         """Returns what the library writes, for which there is room for so many items of this size. Nothing else may be written."""
-        outcome, output = Outcome(), bytearray(UNTOUCHED * (room * size + PIECE.size))
+        outcome, output = Outcome(), bytearray(UNTOUCHED * (room * size + CHANGE.size))
         address = ctypes.c_void_p(ctypes.addressof(ctypes.c_char.from_buffer(output)))
         getattr(self.calls, f"cms_canon_{name}")(*words, address, ctypes.c_size_t(room), ctypes.byref(outcome))
         count = outcome.octets * size if outcome.status == 0 else 0
@@ -84,6 +90,14 @@ class Library:
     def pieces(self, octets, limit=LIMIT, room=None):
         room = len(octets) + 64 if room is None else room
         return self.asked("pieces", room, *words_of(octets), ctypes.c_uint64(limit), size=PIECE.size)
+
+    def changes(self, octets, limit=LIMIT, room=None):
+        room = len(octets) + 64 if room is None else room
+        return self.asked("changes", room, *words_of(octets), ctypes.c_uint64(limit), size=CHANGE.size)
+
+    def list_changes(self, octets, json=False, limit=LIMIT, room=None):
+        room = 300 * len(octets) + 1000 if room is None else room
+        return self.asked("list_changes", room, *words_of(octets), ctypes.c_bool(json), ctypes.c_uint64(limit))
 
     def part(self, octets, path, number):
         words = *words_of(octets), *path_of(path), ctypes.c_uint32(number), ctypes.c_uint64(LIMIT)

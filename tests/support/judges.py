@@ -37,7 +37,7 @@ def judge_convert(program, vector):
     if "refused" not in vector:
         yield "convert", Outcome(octets_of(vector, "output"), b"", 0), run([program, "convert"], given, again)
         return
-    runs = [(words, b"", b"") for words in ("convert", "show", "check", "cover --signer 0")]
+    runs = [(words, b"", b"") for words in ("convert", "show", "changes", "check", "cover --signer 0")]
     runs += [("same", octets_of(EVERY[SMALLEST], "output"), b"second: ")]
     if vector["refused"]["name"] != "Trailing":
         runs += [("same", b"", b"first: "), ("check --content", b"", b""), ("cover --signer 0 --content", b"", b"")]

@@ -52,9 +52,28 @@ test("the limit is heeded, and may be a number or a bigint", () => {
     for (const limit of [-1, 1.5, NaN, 2 ** 40 + 1, "5", null]) assert.throws(() => canon.convert(der, { limit }), RangeError);
 });
 
+test("the changes are those of the text", () => {
+    const changes = canon.changes(message), text = canon.listChanges(message);
+    assert.deepEqual(changes.map(it => it.text), text.split("\n").slice(0, changes.length));
+    assert.ok(text.endsWith(`, ${changes.length} changes\n`));
+    assert.deepEqual({ ...changes[0] }, { kind: "length made definite", place: 0, length: 2, derPlace: 0, derLength: 4, first: der.length - 4, second: message.length - 2, set: null, text: changes[0].text });
+    assert.equal(JSON.parse(canon.listChanges(message, { json: true })).changes.length, changes.length);
+    assert.deepEqual([canon.changes(der), canon.listChanges(der)], [[], "no change\n"]);
+});
+
+test("the pieces, one after another, are the DER", () => {
+    for (const octets of [message, der, withContent(100_000), Buffer.concat([Buffer.from([0x30, 0x80]), der.subarray(4), Buffer.alloc(2)])]) {
+        const converted = canon.convert(octets), pieces = canon.pieces(octets);
+        const joined = pieces.map(({ place, length, made }) => (made ? converted : octets).subarray(place, place + length));
+        assert.deepEqual(new Uint8Array(Buffer.concat(joined)), converted);
+        assert.equal(pieces.some(it => it.made), !Buffer.from(converted).equals(octets));
+    }
+    assert.deepEqual(canon.pieces(der), [{ place: 0, length: der.length, made: false }]);
+});
+
 test("what is no octets is refused", () => {
     for (const data of ["text", [48, 3], null, undefined, 5, new ArrayBuffer(4), new Uint16Array(4), {}]) {
-        for (const call of ["convert", "convertMany", "show", "check", "digestsAsked", "checkDigests", "fields", "tstInfoFields", "extent"]) {
+        for (const call of ["convert", "convertMany", "show", "check", "digestsAsked", "checkDigests", "fields", "pieces", "changes", "listChanges", "tstInfoFields", "extent"]) {
             assert.throws(() => canon[call](data), TypeError, `${call} of ${data}`);
         }
         assert.throws(() => canon.same(der, data), TypeError);
@@ -69,7 +88,7 @@ test("what is no octets is refused", () => {
 });
 
 test("an option of another name is refused", () => {
-    for (const call of ["convert", "show", "check", "fields", "checkDigests", "digestsAsked", "convertMany"]) {
+    for (const call of ["convert", "show", "check", "fields", "pieces", "changes", "listChanges", "checkDigests", "digestsAsked", "convertMany"]) {
         assert.throws(() => canon[call](der, { limits: 5 }), TypeError, call);
     }
     for (const options of [{ contents: der }, { stamp: der }, "limit"]) assert.throws(() => canon.check(der, options), TypeError);
@@ -90,7 +109,7 @@ test("an option of another name is refused", () => {
 
 /** Gives calls in which code of the caller does something to the octets before they are read. */
 function* interrupted(octets, change) {
-    for (const call of ["convert", "show", "check", "fields"]) yield () => canon[call](octets, { get limit() { change(); return LIMIT; } });
+    for (const call of ["convert", "show", "check", "fields", "pieces", "changes", "listChanges"]) yield () => canon[call](octets, { get limit() { change(); return LIMIT; } });
     yield () => canon.checkDigests(octets, { content: { get sha256() { change(); return new Uint8Array(32); } } });
     yield () => canon.cover(octets, new Proxy([0], { get: (it, name) => (name === "0" && change(), it[name]) }));
 }
@@ -174,7 +193,7 @@ test("without memory nothing is written, and the next call is right", async () =
             }
         };
         const own = new CmsCanon(compiled);
-        for (const call of ["convert", "show", "check", "fields", "digestsAsked", "convertMany"]) {
+        for (const call of ["convert", "show", "check", "fields", "pieces", "changes", "listChanges", "digestsAsked", "convertMany"]) {
             const wanted = canon[call](message);
             try {
                 assert.deepEqual(own[call](message), wanted);

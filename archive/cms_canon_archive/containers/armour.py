@@ -11,7 +11,7 @@ from typing import Iterator, List, NamedTuple, Optional
 
 import cms_canon
 
-from .found import Class, Found
+from .found import Class, Due, Found
 from .sources import Budget, Source
 
 ENDINGS = (  # of a file that signs or stamps the one with the rest of its name
@@ -107,10 +107,10 @@ def in_pem(octets: bytes, source: Source) -> Iterator[Found]:
         else:
             others.add(block.label)
     if len(blocks) == 1:
-        yield _candidate("", "PEM", _decoded(blocks[0].body), source.name)
+        yield _candidate("", "PEM", _decoded(blocks[0].body), source.name)._replace(due=Due.MESSAGE)
         return
     for number, block in enumerate(blocks):
-        yield _candidate(f"block {number}", "PEM", _decoded(block.body), source.name)
+        yield _candidate(f"block {number}", "PEM", _decoded(block.body), source.name)._replace(due=Due.MESSAGE)
     if blocks:
         yield Found("", "PEM", Class.CONTAINER, source.size)
         return

@@ -13,14 +13,17 @@ import cms_canon
 from cms_canon._facts import Facts, facts_of
 
 from . import armour, mail, marks, named, packed, pdf, zips
-from .found import KEPT, Class, Found, is_message
+from .found import KEPT, Class, Due, Found, is_message
 from .packed import Packing
+from .refused import may_be_signed
 from .sources import DEEPEST, DEEPEST_MAIL, Ended, Source, TooLarge, in_memory, is_text
 
 Into = Callable[[], Iterator[Found]]
 Look = Tuple[str, Into]  # what kind of file it seems to be, and what looks into it
 
-SIGNATURE_ENDINGS = (".p7s", ".p7m", ".p7c", ".cms", ".tsq", ".tsr", ".tst")  # a file so named lies where a message is due
+SIGNATURE_ENDINGS = (".p7s", ".sgn", ".tsr", ".tst")  # a file with such a name should be a signature
+MESSAGE_ENDINGS = (".p7m", ".p7c", ".p7b", ".pkcs7", ".cms")  # or any other message
+_ENDINGS = (*SIGNATURE_ENDINGS, *MESSAGE_ENDINGS, ".tsq")
 _ELEMENT = b"\x30"
 _DATA = bytes.fromhex("2a864886f70d010701")  # the type of contents that are looked into
 _BEGINNINGS_OF_CONTENT = (b"\xa0", b"\x24", b"\x04")
@@ -106,11 +109,11 @@ def _by_beginning(source: Source) -> Optional[Found]:
 
 def _text_alone(source: Source) -> Optional[Found]:
     octets = source.octets()
-    if armour.in_base64(source) is not None:
+    if armour.in_base64(source) is not None or _BEGIN in octets:
         return None
     if (known := _known_text(octets)) is not None:
         return known
-    return None if _BEGIN in octets or _is_due(source) else _plain_text(octets)
+    return None if _is_due(source) else _plain_text(octets)
 
 
 def opened_alone(place: Found, source: Source, facts: Optional[Facts]) -> Optional[Found]:
@@ -182,8 +185,10 @@ def _holds_data(place: Found) -> bool:
 
 
 def _is_something_else(found: Found) -> bool:
-    """Whether what may be a message in signed content is none, as a certificate."""
-    return not found.where and found.what is Class.MESSAGE and found.octets is not None and not is_message(found.octets)
+    """Whether what may be a message in signed content is none, as a certificate, and does not begin as one that somebody signed."""
+    if found.where or found.what is not Class.MESSAGE or found.octets is None or is_message(found.octets):
+        return False
+    return found.due is Due.NOTHING and not may_be_signed(found.octets)
 
 
 def _look_for(source: Source, depth: int, mails: int) -> Look:
@@ -287,16 +292,14 @@ def _look_for_text(source: Source, depth: int, mails: int) -> Look:
 def _in_text(source: Source) -> Iterator[Found]:
     """Gives the blocks of PEM in a text, or the message that it is in base64, or the text itself."""
     if (base64 := armour.in_base64(source)) is not None:
-        yield base64
+        yield base64._replace(due=_due_by(source.name))
         return
     octets = source.octets()
-    if (known := _known_text(octets)) is not None:
-        yield known
-        return
+    known = _known_text(octets)
     found = armour.in_pem(octets, source) if _BEGIN in octets else iter((_plain_text(octets),))
     for place in found:
         is_nothing = place.where == "" and place.what in (Class.TEXT, Class.NO_CANDIDATE)
-        yield _message(source, octets) if is_nothing and _is_due(source) else place
+        yield known if known and is_nothing else _message(source, octets) if is_nothing and _is_due(source) else place
 
 
 def _known_text(octets: bytes) -> Optional[Found]:
@@ -321,11 +324,16 @@ def _in_utf_16(source: Source) -> Iterator[Found]:
 
 def _is_due(source: Source) -> bool:
     """Whether a file is so named that it is taken for a message if it is nothing else, so that its refusal is said."""
-    return source.name.lower().endswith(SIGNATURE_ENDINGS)
+    return source.name.lower().endswith(_ENDINGS)
+
+
+def _due_by(name: str) -> Due:
+    lower = name.lower()
+    return Due.SIGNATURE if lower.endswith(SIGNATURE_ENDINGS) else Due.MESSAGE if lower.endswith(MESSAGE_ENDINGS) else Due.NOTHING
 
 
 def _message(source: Source, octets: bytes) -> Found:
-    return Found("", "file", Class.MESSAGE, len(octets), octets, wants=armour.wanted_by(source.name))
+    return Found("", "file", Class.MESSAGE, len(octets), octets, due=_due_by(source.name), wants=armour.wanted_by(source.name))
 
 
 def _in_octets(source: Source) -> Iterator[Found]:

@@ -29,6 +29,16 @@ class Class(str, Enum):
     UNREADABLE = "unreadable"
 
 
+class Due(Enum):
+    """What is due at a place, as its name, its label or its container says."""
+
+    NOTHING = 0
+    MESSAGE = 1
+    """A CMS message of whatever type."""
+    SIGNATURE = 2
+    """A message that somebody signed."""
+
+
 class State(str, Enum):
     """What is known of the digests of a message and of the document that it covers."""
 
@@ -114,6 +124,8 @@ class Found(NamedTuple):
     content: Optional[Content] = None
     is_detached: bool = False
     """Whether what is signed is to lie elsewhere, so that content inside the message is not the document."""
+    due: Due = Due.NOTHING
+    """What is due there; a signature also if `is_detached` is true."""
     wants: Optional[str] = None
     """The name of the file beside it which it covers, as long as nobody has looked for that."""
     note: str = ""
@@ -124,6 +136,10 @@ class Found(NamedTuple):
     """What the message says, if it was read for that, and is so short that this was kept."""
     sha256: Optional[bytes] = None
     """That of all octets of the file itself, if it was wanted; None if the file became longer or shorter as it was read."""
+
+    @property
+    def is_signature_due(self) -> bool:
+        return self.is_detached or self.due is Due.SIGNATURE
 
     def within(self, name: str) -> Found:
         r"""Returns the same as it is called from outside the member of this name, in which `!` is written as `\x21`."""

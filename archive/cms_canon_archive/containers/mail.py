@@ -22,7 +22,7 @@ from typing import BinaryIO, Callable, Dict, Iterator, List, NamedTuple, Optiona
 
 import cms_canon
 
-from .found import Class, Content, Found, Octets, Pieces, State
+from .found import Class, Content, Due, Found, Octets, Pieces, State
 from .sources import MOST_IN_MEMORY, PIECE, Budget, Source, TooLarge, in_memory
 from .spans import Span, span_of
 
@@ -30,8 +30,9 @@ Search = Callable[[Source], Iterator[Found]]
 
 _CMS_TYPES = {
     *(f"application/{prefix}pkcs7-{it}" for prefix in ("", "x-") for it in ("mime", "signature")),
-    *("application/timestamp-reply", "application/timestamp-token"),
+    *("application/timestamp-reply", "application/timestamp-token", "application/cms"),
 }
+_SIGNATURE_TYPES = {it for it in _CMS_TYPES if it.endswith("-signature") or "timestamp" in it}
 _OTHERS = "other parts are not covered"
 _WITH_LF = "it was signed as it is, with LF at the ends of lines: readers differ on that"
 _WITHOUT_QUOTE = "it was signed without > before From at the beginning of a line: readers differ on that"
@@ -324,7 +325,8 @@ class Mail:
         around = around.within(part)
         if part.kind in _CMS_TYPES:
             message = _decoded(part)
-            yield Found(where or "body", f"mail {part.kind}", Class.MESSAGE, len(message), message, note=around.note(part.note_of_coding))
+            due = Due.SIGNATURE if part.kind in _SIGNATURE_TYPES else Due.MESSAGE
+            yield Found(where or "body", f"mail {part.kind}", Class.MESSAGE, len(message), message, due=due, note=around.note(part.note_of_coding))
         elif part.kind == "message/rfc822":
             yield from self._in_forwarded(f"{where}/mail" if where else "mail", part, depth, replace(around, has_others=False))
         elif part.kind == "message/partial":

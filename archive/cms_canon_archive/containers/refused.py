@@ -1,12 +1,14 @@
 """What octets are that are refused as a message: a certificate, a key, an encrypted message or another structure of ASN.1 that is well known.
 
-Only headers of elements are looked at, so that this takes the same time for a file of any size. What has not all of the structure has no name.
+Only headers of elements are looked at. What has not all of the structure, or something after it, has no name.
 """
 
 from __future__ import annotations
 
 import re
 from typing import Callable, List, NamedTuple, Optional, Pattern, Sequence, Tuple
+
+from cms_canon import _calls
 
 from .armour import first_block
 
@@ -20,8 +22,10 @@ _SEQUENCE, _OBJECT_IDENTIFIER, _BIT_STRING, _INTEGER = 0x30, 0x06, 0x03, 0x02
 _PASSWORD_BASED = (bytes.fromhex("2a864886f70d0105"), bytes.fromhex("2a864886f70d010c01"))  # PKCS #5 and PKCS #12
 _OCSP_BASIC = bytes.fromhex("2b0601050507300101")
 _PKCS8, _PKCS1, _SEC1 = "a private key (PKCS #8)", "a private key (PKCS #1)", "a private key (SEC 1)"
+_PUBLIC = "a public key"
 _ENCRYPTED_KEY, _OCSP = "an encrypted private key (PKCS #8)", "an OCSP response"
-_FIRST_BLOCK = "PEM, and its first block is "
+IN_PLACE, UNNAMED = ", in place of a signature", "it is not known what it is"
+_SIGNED_TOO, _COMPRESSED = "an encrypted message (PKCS #7 SignedAndEnvelopedData)", "a compressed message (CMS CompressedData)"
 
 
 class _Element(NamedTuple):
@@ -129,6 +133,11 @@ def _private_key(octets: bytes, children: List[_Element]) -> str:
     return _PKCS8 if is_one else ""
 
 
+def _public_key(octets: bytes, children: List[_Element]) -> str:
+    """SubjectPublicKeyInfo: an algorithm and bits."""
+    return _PUBLIC if _algorithm(octets, children[0]) else ""
+
+
 def _rsa_key(octets: bytes, children: List[_Element]) -> str:
     """RSAPrivateKey: a version, and eight numbers."""
     version = b"\1" if len(children) == 10 else b"\0"
@@ -155,6 +164,7 @@ def _ocsp_response(octets: bytes, children: List[_Element]) -> str:
 
 _IN_DER: Sequence[Tuple[Pattern[bytes], Callable[[bytes, List[_Element]], str]]] = (  # by the identifiers of what is in them
     (re.compile(rb"\x30\x30\x03"), _signed),
+    (re.compile(rb"\x30\x03"), _public_key),
     (re.compile(rb"\x02\x30\x04\xa0?(?:\x81|\xa1)?"), _private_key),
     (re.compile(rb"\x02{9}\x30?"), _rsa_key),
     (re.compile(rb"\x02\x04(?:\xa0\xa1?|\xa1)"), _ec_key),
@@ -180,24 +190,35 @@ def _begins(*octets: bytes) -> Pattern[bytes]:
 
 
 _INSIDE = rb"\xa0" + _LENGTH
+_SIGNED_DATA = _begins(_PKCS7, rb"\x02")
 _BEGINNINGS = (
     (_begins(_PKCS7, rb"\x01", _INSIDE, rb"[\x04\x24]"), "data that nobody signed (CMS Data)"),
     (_begins(_PKCS7, rb"\x03", _INSIDE, rb"\x30"), "an encrypted message (CMS EnvelopedData)"),
-    (_begins(_PKCS7, rb"\x04", _INSIDE, rb"\x30"), "an encrypted message (PKCS #7 SignedAndEnvelopedData)"),
+    (_begins(_PKCS7, rb"\x04", _INSIDE, rb"\x30"), _SIGNED_TOO),
     (_begins(_PKCS7, rb"\x05", _INSIDE, rb"\x30"), "a message with a digest that nobody signed (CMS DigestedData)"),
     (_begins(_PKCS7, rb"\x06", _INSIDE, rb"\x30"), "an encrypted message (CMS EncryptedData)"),
     (_begins(_SMIME, rb"\x02", _INSIDE, rb"\x30"), "a message with a MAC (CMS AuthenticatedData)"),
-    (_begins(_SMIME, rb"\x09", _INSIDE, rb"\x30"), "a compressed message (CMS CompressedData)"),
+    (_begins(_SMIME, rb"\x09", _INSIDE, rb"\x30"), _COMPRESSED),
     (_begins(_SMIME, rb"\x17", _INSIDE, rb"\x30"), "an encrypted message (CMS AuthEnvelopedData)"),
     (_begins(rb"\x02\x01\x03\x30", _LENGTH, _PKCS7, rb"[\x01\x02]\xa0"), "a file of keys or certificates (PKCS #12)"),
 )
 
 
-_NAMES = frozenset((_PKCS8, _PKCS1, _SEC1, _ENCRYPTED_KEY, _OCSP, *(name for _, name in _SIGNED), *(name for _, name in _BEGINNINGS)))
+_CMS = frozenset(name for _, name in _BEGINNINGS if "CMS" in name or "PKCS #7" in name)
+_NAMES = frozenset((_PUBLIC, _PKCS8, _PKCS1, _SEC1, _ENCRYPTED_KEY, _OCSP, *(name for _, name in _SIGNED), *(name for _, name in _BEGINNINGS)))
+_KNOWN = _NAMES - {_SIGNED_TOO, _COMPRESSED}  # in which nothing is that somebody signed, as far as anybody without a key can say
+
+
+def _is_one_element(octets: bytes) -> bool:
+    """Whether octets are one element with nothing after it."""
+    extent = _calls.Extent()
+    _calls.library.cms_canon_extent(octets, len(octets), len(octets), extent)
+    return bool(extent.reach == _calls.WHOLE and extent.end == len(octets))
 
 
 def _in_octets(octets: bytes) -> str:
-    return next((name for form, name in _BEGINNINGS if form.match(octets)), "") or _in_der(octets)
+    name = next((name for form, name in _BEGINNINGS if form.match(octets)), "")
+    return (name if _is_one_element(octets) else "") if name else _in_der(octets)
 
 
 def _in_pem(octets: bytes) -> str:
@@ -207,7 +228,7 @@ def _in_pem(octets: bytes) -> str:
         return ""
     name = _in_octets(block.body or b"")
     label = block.label.decode("ascii").replace(";", ",")  # or what follows it would be a note of its own, and could be a name
-    return f"{_FIRST_BLOCK}{name}" if name else f"PEM, and the label of its first block is {label}"
+    return f"PEM, and its first block is {name}" if name else f"PEM, and the label of its first block is {label}"
 
 
 def named(octets: bytes) -> str:
@@ -217,7 +238,19 @@ def named(octets: bytes) -> str:
     return _in_pem(octets) if len(octets) <= _MOST_OF_PEM and _BEGIN in octets[:_BEGINS_WITHIN] else ""
 
 
+def may_be_signed(octets: bytes) -> bool:
+    """Whether octets begin as a message that somebody signed, or that may hold one."""
+    return any(form.match(octets) for form, name in ((_SIGNED_DATA, ""), *_BEGINNINGS) if name not in _KNOWN)
+
+
+def is_cms(name: str) -> bool:
+    """Whether what is so named is a CMS message, so that it may be in place of a signed one."""
+    return name in _CMS
+
+
 def is_named(note: str) -> bool:
-    """Whether the note of a refused file says that it is something else than a message."""
-    last = note.rpartition("; ")[2]
-    return (last[len(_FIRST_BLOCK) :] if last.startswith(_FIRST_BLOCK) else last) in _NAMES
+    """Whether the note of a refused file says that it is something in which nothing is that somebody signed. Nobody looks at what else is in PEM.
+
+    What the octets are comes last, or `UNNAMED`, since a name of a file in the note could be that of a certificate.
+    """
+    return note.rpartition("; ")[2] in _KNOWN

@@ -24,7 +24,7 @@ from contextlib import closing
 from pathlib import Path
 from typing import Dict, NamedTuple
 
-from elements import element, element_at
+from elements import element, element_at, oid
 from making import tarred, write_files, zipped
 from places import DATA
 from running import SECONDS
@@ -685,6 +685,24 @@ def with_unsigned(der: bytes, attributes: Dict[str, bytes]) -> bytes:
     """Returns a message whose last signer has unsigned attributes, each with one value."""
     whole = b"".join(element(0x30, bytes.fromhex(oid) + element(0x31, value)) for oid, value in attributes.items())
     return appended(der, SIGNER_INFO, element(0xA1, whole))
+
+
+def with_signed(der: bytes, attribute: str, *values: bytes) -> bytes:
+    """Returns a message whose last signer has one more signed attribute, so that its signature is wrong."""
+    one = element(0x30, oid(attribute), element(0x31, *sorted(values)))
+
+    def added(octets: bytes, depth: int) -> bytes:
+        whole = element_at(octets)
+        if depth:
+            *before, last = (it.octets for it in whole.members)
+            return element(whole.identifier, *before, added(last, depth - 1))
+        return element(whole.identifier, *(_with_member(it, one) if it.identifier == 0xA0 else it.octets for it in whole.members))
+
+    return added(der, SIGNER_INFO)
+
+
+def _with_member(members, one: bytes) -> bytes:
+    return element(members.identifier, *sorted([*(it.octets for it in members.members), one]))
 
 
 def write(folder: Path, name: str, case: Case) -> Path:

@@ -1,4 +1,6 @@
+import cmscanon.AlgorithmIdentifier;
 import cmscanon.CmsCanon;
+import cmscanon.Octets;
 import java.io.BufferedReader;
 import java.io.ByteArrayInputStream;
 import java.io.IOException;
@@ -34,15 +36,18 @@ public final class Answer {
     }
 
     private static String shown(Object part) {
+        if (part instanceof Octets) {
+            return ((Octets) part).toHex();
+        }
         return part == null ? "-" : part instanceof byte[] ? HEX.formatHex((byte[]) part) : part.toString();
     }
 
     /** The parts of what a verifier is asked. */
     private static String shown(CmsCanon.Job job) {
-        CmsCanon.AlgorithmIdentifier signing = job.signatureAlgorithm();
-        CmsCanon.AlgorithmIdentifier digest = job.digestAlgorithm();
-        Stream<Object> parts = Stream.of(job.covered(), job.signature(), signing.oid, signing.parameters, digest.oid,
-                digest.parameters, job.issuer(), job.serialNumber(), job.subjectKeyIdentifier());
+        AlgorithmIdentifier signing = job.signatureAlgorithm();
+        AlgorithmIdentifier digest = job.digestAlgorithm();
+        Stream<Object> parts = Stream.of(job.covered(), job.signature(), signing.oid(), signing.parameters(), digest.oid(),
+                digest.parameters(), job.issuer(), job.serialNumber(), job.subjectKeyIdentifier());
         return Stream.concat(parts, job.certificates().stream()).map(Answer::shown).collect(Collectors.joining(":"));
     }
 

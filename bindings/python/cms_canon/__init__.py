@@ -6,6 +6,8 @@
     is_same = cms_canon.same(message, der)
     findings = cms_canon.check(message)
     covered = cms_canon.cover(message, signer=0)
+    account = cms_canon.account(message)
+    is_back = cms_canon.restore(der, account) == message
 
 `read` returns what is in it as an object:
 
@@ -26,7 +28,8 @@ from functools import cached_property
 from typing import Any, Callable, Iterable, Iterator, List, NamedTuple, Optional, Sequence, Tuple, Union
 
 from cms_canon import _calls
-from cms_canon._calls import LIMIT, Octets, Refused
+from cms_canon._calls import LIMIT, Around, Octets, Refused
+from cms_canon._changes import Change, changes, list_changes
 from cms_canon._documents import Document, asked_by, is_in_memory, joined, optional_digests_of
 from cms_canon._fields import (
     Accuracy,
@@ -41,6 +44,7 @@ from cms_canon._fields import (
     TstInfo,
     read,
 )
+from cms_canon._restoring import NotRestored, Piece, account, pieces, restore
 from cms_canon._texts import FINDINGS
 
 try:
@@ -52,13 +56,17 @@ __all__ = [
     "LIMIT",
     "Accuracy",
     "AlgorithmIdentifier",
+    "Around",
     "Attribute",
+    "Change",
     "Document",
     "Finding",
     "Job",
     "Message",
     "MessageImprint",
+    "NotRestored",
     "Octets",
+    "Piece",
     "Refused",
     "SignedData",
     "SignerInfo",
@@ -67,14 +75,25 @@ __all__ = [
     "TstInfo",
     "Verifier",
     "__version__",
+    "account",
+    "changes",
     "check",
     "convert",
     "convert_many",
     "cover",
+    "list_changes",
+    "pieces",
     "read",
+    "restore",
     "same",
     "show",
 ]
+
+
+
+def __dir__() -> List[str]:
+    return [*__all__]
+
 
 _TRUNCATED = 1  # the reason of E1
 _LISTING = 8192  # octets of room for a first call
@@ -107,7 +126,7 @@ def convert_many(chunks: Iterable[Octets], limit: int = LIMIT) -> Iterator[bytes
 def _each_converted(chunks: Iterable[Octets], limit: int) -> Iterator[bytes]:
     kept, extent, done, begins = bytearray(), _calls.Extent(), 0, 0
     for chunk in chunks:
-        octets: Union[bytes, bytearray] = _calls.octets_of(chunk)
+        octets: Union[bytes, bytearray] = _calls.octets_of(chunk, "a chunk")
         # The library reads a message from its beginning in each call. A message that began in a chunk before is asked for once all of it
         # has come, and not at each chunk, which would take time in proportion to the square of its length.
         if kept:
@@ -119,7 +138,7 @@ def _each_converted(chunks: Iterable[Octets], limit: int) -> Iterator[bytes]:
         yield from _elements(ders, messages)
         done, begins = done + messages, begins + read
         if outcome.status == _calls.REFUSED and outcome.reason != _TRUNCATED:
-            raise _calls.error_of(outcome, number=done, begins=begins)
+            raise _calls.error_of(outcome, bytes(memoryview(octets)[read : read + outcome.at + _LISTING]), number=done, begins=begins)
         if read < len(octets):
             kept, extent = bytearray(memoryview(octets)[read:]), _calls.Extent()
         else:
@@ -127,7 +146,7 @@ def _each_converted(chunks: Iterable[Octets], limit: int) -> Iterator[bytes]:
     outcome, messages, read, ders = _converted(kept or b"", limit)
     yield from _elements(ders, messages)
     if outcome.status == _calls.REFUSED:
-        raise _calls.error_of(outcome, number=done + messages, begins=begins + read)
+        raise _calls.error_of(outcome, bytes(memoryview(kept)[read:]), number=done + messages, begins=begins + read)
 
 
 def _is_missing_octets(octets: bytearray, limit: int, extent: _calls.Extent) -> bool:
@@ -175,7 +194,7 @@ def _converted(octets: Union[bytes, bytearray], limit: int) -> Tuple[_calls.Outc
             break
         room = outcome.octets
     if status not in (_calls.DONE, _calls.REFUSED):
-        raise _calls.error_of(outcome)
+        raise _calls.error_of(outcome, None)
     return outcome, many.messages, many.read, memoryview(output)[: outcome.octets]
 
 
@@ -195,12 +214,12 @@ def same(first: Octets, second: Octets, limit: int = LIMIT) -> bool:
     Each message and its DER may have at most `limit` octets. Raises `Refused` if one of the two is no such message, and says which;
     and `MemoryError` if memory runs out.
     """
-    one, other = _calls.octets_of(first), _calls.octets_of(second)
+    one, other = _calls.octets_of(first, "first"), _calls.octets_of(second, "second")
     outcome = _calls.Outcome()
     _calls.library.cms_canon_same(one, len(one), other, len(other), _calls.limit_of(limit), outcome)
     if outcome.status in (_calls.DONE, _calls.DIFFERENT):
         return bool(outcome.status == _calls.DONE)
-    raise _calls.error_of(outcome, message=outcome.octets)
+    raise _calls.error_of(outcome, other if outcome.octets == 2 else one, message=outcome.octets)
 
 
 def cover(
@@ -228,7 +247,7 @@ def cover(
     Raises `Refused` if `data` is no such message, or if there is no such signer or countersignature or no content, and
     `MemoryError` if memory runs out.
     """
-    octets, given = _calls.octets_of(data), _calls.octets_of(b"" if content is None else content)
+    octets, given = _calls.octets_of(data), _calls.octets_of(b"" if content is None else content, "content")
     numbers = _path_of(signer, path)
     room = len(octets) + len(given) + 1
     words = (octets, len(octets), numbers, len(numbers) - 1, given, len(given), content is not None, _calls.limit_of(limit))

@@ -10,9 +10,10 @@ from __future__ import annotations
 import ctypes
 import mmap
 import operator
+import os
 import struct
 from pathlib import Path
-from typing import Any, List, Optional, Tuple, Union
+from typing import Any, List, NamedTuple, Optional, Tuple, Union
 
 from ._prototypes import PROTOTYPES
 
@@ -29,6 +30,7 @@ FINDING = struct.Struct("=QII")  # signer, code, and whether there is a signer
 _OCTETS_PER_FINDING, _OTHER_FINDINGS = 3, 64  # a signer of 19 octets may have six; the others are for the message
 _MAX_LIMIT = 1 << 40
 _LARGE = 1 << 17  # octets of memory
+_AROUND = 16  # octets before and after the place of a refusal
 
 
 class Outcome(ctypes.Structure):
@@ -51,6 +53,7 @@ class Extent(ctypes.Structure):
 
 MORE, WHOLE, UNKNOWN = 0, 1, 3  # values of `reach`
 
+_LIBRARY = "libcms_canon.so"
 _TYPES = {  # of the arguments, as the header has them
     "bool": ctypes.c_bool,
     "size_t": ctypes.c_size_t,
@@ -63,16 +66,48 @@ _TYPES = {  # of the arguments, as the header has them
     "struct cms_canon_finding *": ctypes.c_void_p,
     "struct cms_canon_row *": ctypes.c_void_p,
     "struct cms_canon_piece *": ctypes.c_void_p,
+    "struct cms_canon_change *": ctypes.c_void_p,
     "struct cms_canon_outcome *": ctypes.POINTER(Outcome),
     "struct cms_canon_many *": ctypes.POINTER(Many),
     "struct cms_canon_extent *": ctypes.POINTER(Extent),
 }
 
-library = ctypes.CDLL(str(Path(__file__).with_name("libcms_canon.so")))
+
+
+def _path_of_library() -> Path:
+    """Where the library is: beside this file in what was installed, or in `dist/` of a clone of the repository."""
+    own = Path(__file__).with_name(_LIBRARY)
+    try:
+        in_clone = Path(__file__).resolve().parents[3] / "dist" / f"{os.uname().machine}-linux" / _LIBRARY
+    except IndexError:
+        return own
+    return in_clone if in_clone.exists() and not own.exists() else own
+
+
+def _opened() -> ctypes.CDLL:
+    path = _path_of_library()
+    if not path.exists():
+        hint = "python3 -m pip install --no-index bindings/python" if (path.parents[1] / "pyproject.toml").exists() else "python3 -m pip install --force-reinstall cms-canon"
+        raise ImportError(f"{path} is not there: cms_canon was copied without its library, which `{hint}` installs")
+    try:
+        return ctypes.CDLL(str(path))
+    except OSError as why:
+        raise ImportError(f"{path} cannot be loaded on this machine ({os.uname().sysname} on {os.uname().machine}): {why}") from None
+
+
+library = _opened()
 for _name, _types in PROTOTYPES.items():
     _function = getattr(library, _name)
     _function.restype = None
     _function.argtypes = [_TYPES[it] for it in _types]
+
+
+class Around(NamedTuple):
+    """Some octets of what was refused, around the place where it was."""
+
+    begins: int
+    """At which octet of the message they begin, from 0."""
+    octets: bytes
 
 
 class Refused(ValueError):
@@ -93,6 +128,9 @@ class Refused(ValueError):
     """The number of the message that `convert_many` refuses, from 0; of another call None. The text begins as `message 1: `."""
     begins: Optional[int]
     """At which octet of all chunks that message begins, from 0; of another call None. `at` counts from there."""
+    octets_around: Optional[Around]
+    """Up to 16 octets of the message before `at` and 16 from there on, for who looks at why it is refused; None if `at` is None, or is of a document.
+    They may be a secret, if what was given is a key, say."""
 
     def __init__(
         self,
@@ -102,14 +140,16 @@ class Refused(ValueError):
         message: Optional[int] = None,
         number: Optional[int] = None,
         begins: Optional[int] = None,
+        octets_around: Optional[Around] = None,
     ) -> None:
-        super().__init__(reason, name, at, message, number, begins)
+        super().__init__(reason, name, at, message, number, begins, octets_around)
         self.reason = reason
         self.name = name
         self.at = at
         self.message = message
         self.number = number
         self.begins = begins
+        self.octets_around = octets_around
 
     def __str__(self) -> str:
         if self.at is None:
@@ -120,9 +160,14 @@ class Refused(ValueError):
         return f"{which}refused E{self.reason} {self.name} at {self.at}"
 
 
-def octets_of(data: Octets) -> bytes:
+def octets_of(data: Octets, what: str = "data") -> bytes:
     """The octets, copied if they could change during a call, or if their type may say another length than they have."""
-    return data if type(data) is bytes else bytes(memoryview(data))
+    if type(data) is bytes:
+        return data
+    try:
+        return bytes(memoryview(data))
+    except TypeError:
+        raise TypeError(f"{what} is octets (bytes, a bytearray or a memoryview), not {type_name(data)}") from None
 
 
 def optional_of(octets: Optional[bytes]) -> Tuple[bytes, int, bool]:
@@ -168,7 +213,7 @@ _rooms: List[_Room] = []  # those that no call has: as many as there were calls 
 
 
 def called(function: Any, room: int, *words: object, size: int = 1) -> bytes:
-    """Calls with room for at least so many items of this size in octets, and once more if they are too few."""
+    """Calls with room for at least so many items of this size in octets, and once more if they are too few. The first word has the octets of the message."""
     if room * size > _LARGE:
         return _called_with(function, room, words, size)
     try:
@@ -183,7 +228,7 @@ def called(function: Any, room: int, *words: object, size: int = 1) -> bytes:
         if status == DONE:
             return kept.view[: outcome.octets * size].tobytes()
         if status != ROOM_TOO_SMALL:
-            raise error_of(outcome)
+            raise error_of(outcome, words[0])
         room = outcome.octets
     finally:
         _rooms.append(kept)
@@ -202,7 +247,7 @@ def _called_with(function: Any, room: int, words: Tuple[object, ...], size: int)
         room = outcome.octets
     if outcome.status == DONE:
         return bytes(memoryview(output)[: outcome.octets * size])
-    raise error_of(outcome)
+    raise error_of(outcome, words[0])
 
 
 def called_for_findings(function: Any, octets: bytes, *words: object) -> bytes:
@@ -221,9 +266,16 @@ def _memory_for(count: int, size: int) -> Union[bytearray, mmap.mmap]:
 
 
 def error_of(
-    outcome: Outcome, message: Optional[int] = None, number: Optional[int] = None, begins: Optional[int] = None
+    outcome: Outcome, octets: object, message: Optional[int] = None, number: Optional[int] = None, begins: Optional[int] = None
 ) -> Exception:
-    if outcome.status == REFUSED:
-        at = outcome.at if outcome.reason < NO_SIGNED_DATA else None
-        return Refused(outcome.reason, outcome.name.decode("ascii"), at, message, number, begins)
-    return MemoryError("out of memory")
+    """The error of a call that was given these octets as a message."""
+    if outcome.status != REFUSED:
+        return MemoryError("out of memory")
+    at = outcome.at if outcome.reason < NO_SIGNED_DATA else None
+    around = None if at is None or not isinstance(octets, bytes) else _around(octets, at)
+    return Refused(outcome.reason, outcome.name.decode("ascii"), at, message, number, begins, around)
+
+
+def _around(octets: bytes, at: int) -> Around:
+    begins = max(0, min(at, len(octets)) - _AROUND)
+    return Around(begins, octets[begins : at + _AROUND])

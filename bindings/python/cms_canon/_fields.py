@@ -11,12 +11,14 @@ two differs.
 from __future__ import annotations
 
 import json
+import re
 from datetime import datetime, timezone
 from functools import cached_property
-from typing import Any, Callable, Dict, Iterable, List, NamedTuple, Optional, Tuple, TypeVar
+from typing import Any, Callable, Dict, Iterable, List, NamedTuple, Optional, Sequence, Tuple, TypeVar
 
 from cms_canon import _kinds as kinds
 from cms_canon._calls import LIMIT, NO_CONTENT, Octets, Refused, library, limit_of, octets_of
+from cms_canon._elements import Element, elements_of
 from cms_canon._names import NAMES
 from cms_canon._rows import OctetString, Rows, dotted, rows_of
 
@@ -24,6 +26,8 @@ _KINDS_OF_MESSAGES = {kinds.SIGNED_DATA: "signed-data", kinds.REQUEST: "request"
 _TOKEN = "tSTInfo"  # the name of the content type of a token
 _EXACT = (1 << 53) - 1  # the largest whole number that all readers of JSON keep (RFC 8259, section 6)
 _SHORT = 16  # octets that are written out in what `repr` returns
+_OCTET_STRING, _UTC_TIME, _GENERALIZED_TIME = 0x04, 0x17, 0x18
+_TIME = re.compile("[0-9]{14}")
 _Read = TypeVar("_Read")
 
 
@@ -130,6 +134,26 @@ class Attribute(NamedTuple):
 
     def __repr__(self) -> str:
         return _repr_of(self)
+
+
+def _only(items: Sequence[_Read]) -> Optional[_Read]:
+    """The one item; None if there is none, or more than one."""
+    return items[0] if len(items) == 1 else None
+
+
+def _time_of(element: Element) -> Optional[datetime]:
+    """A Time as RFC 5652, section 11.3, wants it; None if it is none, or in the year 0000."""
+    digits = element.contents[:-1].decode("ascii", "replace")
+    if element.identifier == _UTC_TIME and len(digits) == 12:
+        digits = ("19" if digits >= "50" else "20") + digits
+    elif element.identifier != _GENERALIZED_TIME:
+        return None
+    if not _TIME.fullmatch(digits) or not element.contents.endswith(b"Z"):
+        return None
+    try:
+        return datetime.strptime(digits, "%Y%m%d%H%M%S").replace(tzinfo=timezone.utc)
+    except ValueError:
+        return None
 
 
 # ---- what has fields
@@ -460,7 +484,7 @@ class SignerInfo(Part):
         `content` is the content of a detached signature. It is not used if there are signed attributes, or if the message has
         content of its own, and never for a countersignature. Raises `Refused` with the reason 103 if nothing is covered.
         """
-        given = None if content is None else octets_of(content)
+        given = None if content is None else octets_of(content, "content")
         attributes = self._if(self._octets, kinds.SIGNED_ATTRIBUTES)
         if attributes is not None:
             return b"\x31" + attributes[1:]
@@ -469,6 +493,32 @@ class SignerInfo(Part):
         if given is None:
             raise Refused(NO_CONTENT, "no content", None)
         return given
+
+    def signed_attribute(self, name: str) -> Optional[Attribute]:
+        """Returns the signed attribute of this name, as `messageDigest`, or of this OBJECT IDENTIFIER; None if there is none, or more than one."""
+        return _only([it for it in self.signed_attributes or () if name in (it.name, it.oid)])
+
+    @property
+    def message_digest(self) -> Optional[bytes]:
+        """The octets of the attribute message-digest (RFC 5652, section 11.2), of which `check` says whether it is that of the content; None if there
+        is none, or none that has one value which is an OCTET STRING."""
+        found = self._signed_value("messageDigest")
+        return found.contents if found is not None and found.identifier == _OCTET_STRING else None
+
+    @property
+    def signing_time(self) -> Optional[datetime]:
+        """When the signer says that it signed (RFC 5652, section 11.3), in UTC. Nobody vouches for it. None if it does not say so, or not as it should."""
+        found = self._signed_value("signingTime")
+        return None if found is None else _time_of(found)
+
+    def _signed_value(self, name: str) -> Optional[Element]:
+        """The one value of the one signed attribute of this name."""
+        attribute = self.signed_attribute(name)
+        value = None if attribute is None else _only(attribute.values)
+        try:
+            return None if value is None else _only([*elements_of(value)])
+        except ValueError:
+            return None
 
     @cached_property
     def _signature(self) -> OctetString:
@@ -642,6 +692,17 @@ class Message(Part):
     def tst_info(self) -> Optional[TstInfo]:
         """That of the SignedData."""
         return None if self.signed_data is None else self.signed_data.tst_info
+
+    def certificate_of(self, signer: SignerInfo) -> Optional[bytes]:
+        """Returns the certificate in the message that a signer of it names, by issuer and serial number or by the key identifier (RFC 5652, section 5.3).
+
+        Anybody can put a certificate into a message: whether it is to be trusted is for the caller to judge. None if there is none that can be read, or
+        several that differ.
+        """
+        from cms_canon._certificates import is_named  # which most callers do not need
+
+        certificates = () if self.signed_data is None else self.signed_data._certificates
+        return _only([*{it for it in certificates if is_named(it, signer.issuer, signer.serial_number, signer.subject_key_identifier)}])
 
     def to_dict(self) -> Dict[str, Any]:
         """Returns `kind` and all fields, in dictionaries and lists that JSON can have: those of a signed message beside `kind`, and

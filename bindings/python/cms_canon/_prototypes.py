@@ -111,4 +111,21 @@ PROTOTYPES = {
         "size_t",  # pieces_room
         "struct cms_canon_outcome *",  # outcome
     ),
+    "cms_canon_changes": (
+        "const uint8_t *",  # input
+        "size_t",  # input_length
+        "uint64_t",  # limit
+        "struct cms_canon_change *",  # changes
+        "size_t",  # changes_room
+        "struct cms_canon_outcome *",  # outcome
+    ),
+    "cms_canon_list_changes": (
+        "const uint8_t *",  # input
+        "size_t",  # input_length
+        "bool",  # json
+        "uint64_t",  # limit
+        "uint8_t *",  # output
+        "size_t",  # output_room
+        "struct cms_canon_outcome *",  # outcome
+    ),
 }

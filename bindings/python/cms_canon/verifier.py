@@ -34,7 +34,6 @@ from __future__ import annotations
 
 import re
 from functools import cached_property
-from itertools import islice
 from typing import AbstractSet, Any, Callable, Dict, Iterable, Iterator, List, NamedTuple, Optional, Set, Tuple, Union
 from weakref import WeakKeyDictionary
 
@@ -47,8 +46,7 @@ from cryptography.hazmat.primitives.serialization import Encoding, PublicFormat,
 
 from cms_canon import AlgorithmIdentifier, Job, Message, Octets, Verifier
 from cms_canon._calls import octets_of
-from cms_canon._elements import Element, elements_of
-from cms_canon._rows import dotted
+from cms_canon._certificates import Certificate, certificate_in, integer_in, members_of, oid_in, whole_in
 
 __all__ = ["by_certificates"]
 
@@ -95,7 +93,6 @@ _DSA_DIGESTS = {
     **{f"{_NIST_SIGNATURES}.{it}": digest for it, digest in enumerate((_SHA224, _SHA256, _SHA384, _SHA512, *_SHA3), 1)},
 }
 
-_SUBJECT_KEY_IDENTIFIER = "2.5.29.14"
 _SHA1_IN_DER = bytes.fromhex("300906052b0e03021a0500")
 _MGF1_BY_SHA1_IN_DER = bytes.fromhex("301606092a864886f70d010108") + _SHA1_IN_DER
 
@@ -142,112 +139,28 @@ def by_certificates(
     return verify
 
 
-# ---- DER
-
-
-def _members(octets: bytes, most: int, identifiers: bytes) -> List[Element]:
-    """The members of the one SEQUENCE in DER: at most so many, since millions of small ones would take much memory, and with
-    identifiers that match this pattern."""
-    (sequence,) = elements_of(octets)
-    found = [*islice(elements_of(_checked(sequence, 0x30).contents), most + 1)]
-    if not re.fullmatch(identifiers, bytes(it.identifier for it in found), re.DOTALL):
-        raise ValueError("other members are due")
-    return found
-
-
-def _checked(element: Element, identifier: int) -> Element:
-    if element.identifier != identifier:
-        raise ValueError("another element is due")
-    return element
-
-
-def _integer(element: Element) -> int:
-    """The INTEGER, which has an octet, and whose first nine bits are not all the same (X.690, sections 8.3.1 and 8.3.2)."""
-    contents = _checked(element, 0x02).contents
-    if re.match(rb"\Z|\x00[\x00-\x7f]|\xff[\x80-\xff]", contents):
-        raise ValueError("not an INTEGER in DER")
-    return int.from_bytes(contents, "big", signed=True)
-
-
-def _whole(octets: bytes) -> int:
-    """The one INTEGER in DER."""
-    (integer,) = elements_of(octets)
-    return _integer(integer)
-
-
-def _oid(element: Element) -> str:
-    """The text of the OBJECT IDENTIFIER (X.690, section 8.19)."""
-    contents = _checked(element, 0x06).contents
-    if not re.fullmatch(rb"(?:(?:[\x81-\xff][\x80-\xff]*)?[\x00-\x7f])+", contents):
-        raise ValueError("not an OBJECT IDENTIFIER in DER")
-    return dotted(contents)
-
-
 def _algorithm(octets: bytes) -> AlgorithmIdentifier:
     """The AlgorithmIdentifier in DER."""
-    identifier, *parameters = _members(octets, 2, rb"\x06.?")
-    return AlgorithmIdentifier(_oid(identifier), parameters[0].octets if parameters else None)
+    identifier, *parameters = members_of(octets, 2, rb"\x06.?")
+    return AlgorithmIdentifier(oid_in(identifier), parameters[0].octets if parameters else None)
 
 
 # ---- certificates
 
 
-class _Certificate(NamedTuple):
-    """What is read of a Certificate (RFC 5280, section 4.1). `cryptography` refuses certificates for fields that do not matter here."""
-
-    issuer: bytes
-    serial_number: int
-    key: bytes  # subjectPublicKeyInfo
-    extensions: Optional[bytes]
-
-    @property
-    def subject_key_identifier(self) -> Optional[bytes]:
-        """Raises `ValueError` if an extension cannot be read, or if two are key identifiers (RFC 5280, section 4.2)."""
-        if self.extensions is None:
-            return None
-        (sequence,) = elements_of(self.extensions)
-        found: Optional[Element] = None
-        for extension in elements_of(_checked(sequence, 0x30).contents):
-            identifier, value = _extension(extension.octets)
-            if identifier == _SUBJECT_KEY_IDENTIFIER:
-                if found is not None:
-                    raise ValueError("two key identifiers")
-                (found,) = elements_of(value)
-        return None if found is None else _checked(found, 0x04).contents
-
-
-def _extension(octets: bytes) -> Tuple[str, bytes]:
-    """The identifier and the value of the Extension in DER, in which `critical` is absent if it is FALSE."""
-    identifier, *critical, value = _members(octets, 3, rb"\x06\x01?\x04")
-    if critical and critical[0].contents != b"\xff":
-        raise ValueError("not an Extension in DER")
-    return _oid(identifier), value.contents
-
-
-def _certificate(octets: bytes) -> _Certificate:
-    """Raises `ValueError` if these octets are not a Certificate in DER, as far as that is looked at."""
-    tbs_certificate, _, _ = _members(octets, 3, rb"\x30\x30\x03")
-    fields = _members(tbs_certificate.octets, 10, rb"\xa0?\x02\x30{5}\x81?\x82?\xa3?")
-    serial_number, _, issuer, _, _, key = (it for it in fields if it.identifier < 0x80)
-    optional = {it.identifier: it.contents for it in fields if it.identifier >= 0x80}
-    if 0xA0 in optional and _whole(optional[0xA0]) == 0:
-        raise ValueError("the default version is there")
-    return _Certificate(issuer.octets, _integer(serial_number), key.octets, optional.get(0xA3))
-
-
-def _given_certificate(number: int, certificate: Union[Octets, x509.Certificate]) -> _Certificate:
+def _given_certificate(number: int, certificate: Union[Octets, x509.Certificate]) -> Certificate:
     octets = certificate.public_bytes(Encoding.DER) if isinstance(certificate, x509.Certificate) else octets_of(certificate)
     try:
-        return _certificate(octets)
+        return certificate_in(octets)
     except ValueError:
         raise ValueError(f"what is handed in with the number {number} is not a certificate in DER") from None
 
 
-def _certificates_in(job: Job) -> Iterable[_Certificate]:
+def _certificates_in(job: Job) -> Iterable[Certificate]:
     """The certificates in the message but for those that cannot be read."""
     for octets in job.certificates:
         try:
-            yield _certificate(octets)
+            yield certificate_in(octets)
         except ValueError:
             pass
 
@@ -258,7 +171,7 @@ _Keys = Dict[object, Set[bytes]]
 class _Index:
     """The keys of certificates, by how a signer names their certificate (RFC 5652, section 5.3)."""
 
-    def __init__(self, certificates: Iterable[_Certificate]) -> None:
+    def __init__(self, certificates: Iterable[Certificate]) -> None:
         self._certificates = [*certificates]
 
     def keys_for(self, job: Job) -> AbstractSet[bytes]:
@@ -307,7 +220,7 @@ def _public_key(octets: bytes) -> Tuple[Any, Optional[AlgorithmIdentifier]]:
 
     Of RSA the numbers are read here: not every release of `cryptography` knows such a restriction, or that a number is negative.
     """
-    algorithm, bits = _members(octets, 2, rb"\x30\x03")
+    algorithm, bits = members_of(octets, 2, rb"\x30\x03")
     known, contents = _algorithm(algorithm.octets), bits.contents
     if contents[:1] != b"\0":
         raise ValueError("a key with unused bits")
@@ -317,16 +230,16 @@ def _public_key(octets: bytes) -> Tuple[Any, Optional[AlgorithmIdentifier]]:
         return load_der_public_key(octets), None
     if known.oid == _RSA and known.parameters not in (None, _NULL):
         raise ValueError("a key of RSA with parameters")
-    modulus, exponent = _members(contents[1:], 2, rb"\x02\x02")
-    key = rsa.RSAPublicNumbers(_integer(exponent), _integer(modulus)).public_key()
+    modulus, exponent = members_of(contents[1:], 2, rb"\x02\x02")
+    key = rsa.RSAPublicNumbers(integer_in(exponent), integer_in(modulus)).public_key()
     return key, known if known.oid == _RSASSA_PSS else None
 
 
 def _check_numbers(group: bytes, number: bytes) -> None:
     """Refuses a key of DSA whose numbers are not in DER: some releases of `cryptography` have OpenSSL read them, which takes BER."""
-    for it in _members(group, 3, rb"\x02{3}"):
-        _integer(it)
-    _whole(number)
+    for it in members_of(group, 3, rb"\x02{3}"):
+        integer_in(it)
+    whole_in(number)
 
 
 def _check_key(key: Any) -> None:
@@ -429,9 +342,9 @@ def _pss_how(job: Job, restriction: Optional[AlgorithmIdentifier]) -> Tuple[Any,
 
 def _pss(parameters: Optional[bytes]) -> _Pss:
     """Parameters that are there. A field may be there with its default value, though that is not DER: RFC 4055 wants this recognised."""
-    values = {it.identifier: it.contents for it in _members(parameters or b"", 4, rb"\xa0?\xa1?\xa2?\xa3?")}
+    values = {it.identifier: it.contents for it in members_of(parameters or b"", 4, rb"\xa0?\xa1?\xa2?\xa3?")}
     mask = _algorithm(values.get(0xA1, _MGF1_BY_SHA1_IN_DER))
-    salt_length, trailer = (_whole(values.get(it, default)) for it, default in ((0xA2, b"\x02\x01\x14"), (0xA3, b"\x02\x01\x01")))
+    salt_length, trailer = (whole_in(values.get(it, default)) for it, default in ((0xA2, b"\x02\x01\x14"), (0xA3, b"\x02\x01\x01")))
     if mask.oid != _MGF1 or mask.parameters is None or trailer != 1:
         raise ValueError("not parameters that are known")
     return _Pss(_algorithm(values.get(0xA0, _SHA1_IN_DER)), _algorithm(mask.parameters), salt_length)

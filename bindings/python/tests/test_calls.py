@@ -8,7 +8,11 @@ import io
 import json
 import pickle
 import re
+import shutil
 import struct
+import subprocess
+import sys
+import tempfile
 import threading
 import time
 import tracemalloc
@@ -16,13 +20,14 @@ import typing
 import unittest
 import warnings
 from collections import Counter
+from datetime import datetime, timezone
 from decimal import Decimal
 from hashlib import sha256
 from pathlib import Path
 from unittest import mock
 
 import cms_canon
-from cms_canon import _documents
+from cms_canon import _documents, _restoring
 from cms_canon._calls import library
 from cms_canon._rows import _short_dotted, dotted
 
@@ -265,6 +270,59 @@ class Refusals(unittest.TestCase):
             self.assertEqual(str(caught.exception), "refused: no such signer")
         with self.assertRaisesRegex(ValueError, "a number from 0"):
             cms_canon.cover(MESSAGE, -1)
+
+
+    def test_the_octets_around(self):
+        for octets, at, around in (
+            (b"\x30\x06\x05\0", 4, (0, b"\x30\x06\x05\0")), (DER[:12] + b"\x07" + DER[13:], 13, (0, (DER[:12] + b"\x07" + DER[13:])[:29])),
+            (DER[:-1], 43, (27, DER[27:43])), (b"", 0, (0, b"")),
+        ):
+            with self.assertRaises(cms_canon.Refused) as caught:
+                cms_canon.show(octets)
+            refused = caught.exception
+            self.assertEqual((refused.at, refused.octets_around), (at, around))
+            self.assertEqual(pickle.loads(pickle.dumps(refused)).octets_around, around)
+        with self.assertRaises(cms_canon.Refused) as caught:
+            cms_canon.cover(DER, signer=0)
+        self.assertIsNone(caught.exception.octets_around)
+        with self.assertRaises(cms_canon.Refused) as caught:
+            cms_canon.same(DER, DER[:20])
+        self.assertEqual(caught.exception.octets_around, (4, DER[4:20]))
+        for cuts in ([DER + MESSAGE + DER[:30]], [DER, MESSAGE, DER[:15], DER[15:30]], [*map(bytes, zip(DER + DER[:30]))]):
+            with self.assertRaises(cms_canon.Refused) as caught:
+                [*cms_canon.convert_many(cuts)]
+            self.assertEqual((caught.exception.at, caught.exception.octets_around), (30, (14, DER[14:30])))
+        with self.assertRaises(cms_canon.Refused) as caught:
+            [*cms_canon.convert_many([DER + b"\x30\x02\x05\0" + bytes(40)])]
+        self.assertEqual((caught.exception.at, caught.exception.octets_around), (4, (0, b"\x30\x02\x05\0" + bytes(16))))
+
+    def test_which_argument_is_of_another_type(self):
+        for call, name in (
+            (lambda: cms_canon.convert("text"), "data"), (lambda: cms_canon.read("text"), "data"), (lambda: cms_canon.same(DER, "text"), "second"),
+            (lambda: cms_canon.same("text", DER), "first"), (lambda: cms_canon.cover(DER, 0, "text"), "content"), (lambda: [*cms_canon.convert_many(["text"])], "a chunk"),
+        ):
+            with self.assertRaisesRegex(TypeError, f"^{name} is octets .*, not str$"):
+                call()
+
+
+class Imports(unittest.TestCase):
+    def test_what_is_public(self):
+        self.assertEqual(dir(cms_canon), sorted(cms_canon.__all__))
+
+    def test_a_library_that_is_not_there(self):
+        """It is found in `dist` of a clone; a copy of the modules alone says what to do."""
+        script = "import cms_canon; print(len(cms_canon.convert(bytes.fromhex(input()))))"
+        with tempfile.TemporaryDirectory() as home:
+            package = Path(home) / "site" / "cms_canon"
+            package.mkdir(parents=True)
+            for it in Path(cms_canon.__file__).parent.glob("*.py"):
+                shutil.copy(it, package)
+            ended = subprocess.run([sys.executable, "-c", script], cwd=package.parent, input=DER.hex(), capture_output=True, text=True)
+            said = f"ImportError: {package}/libcms_canon.so is not there: cms_canon was copied without its library, which `python3 -m pip install --force-reinstall cms-canon` installs"
+            self.assertEqual((ended.returncode, ended.stderr.splitlines()[-1]), (1, said))
+            (package / "libcms_canon.so").write_bytes(b"no library")
+            ended = subprocess.run([sys.executable, "-c", script], cwd=package.parent, input=DER.hex(), capture_output=True, text=True)
+            self.assertRegex(ended.stderr.splitlines()[-1], "^ImportError: .*/libcms_canon.so cannot be loaded on this machine .Linux on ")
 
 
 class Paths(unittest.TestCase):
@@ -787,13 +845,287 @@ def signer_with_serial(contents):
     return element(0x30, b"\x02\x01\x01" + sid + bytes.fromhex("300506032a0304300506032a03040401bb"))
 
 
+def attribute_of(oid, *values):
+    return element(0x30, element(0x06, bytes.fromhex(oid)) + element(0x31, b"".join(sorted(values))))
+
+
+def signer_of(sid, attributes):
+    signed = element(0xA0, b"".join(sorted(attributes))) if attributes else b""
+    return element(0x30, b"\x02\x01\x01" + sid + bytes.fromhex("300506032a0304") + signed + bytes.fromhex("300506032a03040401bb"))
+
+
+def certificate_of(serial, identifier=None, name=b"\x30\0"):
+    """A certificate of this serial number, by its framing alone, with this key identifier."""
+    value = b"" if identifier is None else element(0x30, bytes.fromhex("0603551d0e") + element(0x04, element(0x04, identifier)))
+    extensions = b"" if identifier is None else element(0xA3, element(0x30, value))
+    return element(0x30, element(0x30, b"\xa0\x03\x02\x01\x02" + element(0x02, bytes([serial])) + b"\x30\0" + name + b"\x30\0\x30\0\x30\0" + extensions) + b"\x30\0\x03\x01\0")
+
+
+class Attributes(unittest.TestCase):
+    CONTENT_TYPE, DIGEST, TIME = "2a864886f70d010903", "2a864886f70d010904", "2a864886f70d010905"
+
+    def signer_with(self, *attributes):
+        (signer,) = cms_canon.read(message_of(b"", signer_of(b"\x80\x01\x33", attributes))).signers
+        return signer
+
+    def test_signing_times(self):
+        def utc(text):
+            return element(0x17, text)
+
+        def generalized(text):
+            return element(0x18, text)
+
+        for value, wanted in (
+            (utc(b"240229120001Z"), datetime(2024, 2, 29, 12, 0, 1, tzinfo=timezone.utc)), (utc(b"500101000000Z"), datetime(1950, 1, 1, tzinfo=timezone.utc)),
+            (utc(b"491231235959Z"), datetime(2049, 12, 31, 23, 59, 59, tzinfo=timezone.utc)), (generalized(b"20500101000000Z"), datetime(2050, 1, 1, tzinfo=timezone.utc)),
+            *((it, None) for it in (
+                utc(b"2402291200Z"), utc(b"230229120000Z"), utc(b"240229120060Z"), utc(b"240229120000"), utc(b"240229120000+0100"), utc(b"20240229120000Z"), utc(b"24022912000 Z"),
+                generalized(b"240229120000Z"), generalized(b"20240229120000.5Z"), generalized(b"00000101000000Z"), generalized(b"2024022912000\xb2Z"), utc(b""), b"\x05\0", b"\x30\0",
+            )),
+        ):
+            self.assertEqual(self.signer_with(attribute_of(self.TIME, value)).signing_time, wanted, value)
+        good = utc(b"240229120001Z")
+        for attributes in ((), (attribute_of(self.TIME, good, utc(b"240229120002Z")),), (attribute_of(self.TIME),), (attribute_of(self.TIME, good), attribute_of(self.TIME, utc(b"240229120002Z")))):
+            self.assertIsNone(self.signer_with(*attributes).signing_time)
+
+    def test_message_digests(self):
+        digest = element(0x04, bytes(range(32)))
+        for attributes, wanted in (
+            ((attribute_of(self.DIGEST, digest),), bytes(range(32))), ((attribute_of(self.DIGEST, b"\x04\0"),), b""), ((attribute_of(self.DIGEST, b"\x05\0"),), None),
+            ((attribute_of(self.DIGEST, digest, b"\x04\0"),), None), ((), None), ((attribute_of(self.CONTENT_TYPE, digest),), None),
+        ):
+            self.assertEqual(self.signer_with(*attributes).message_digest, wanted)
+
+    def test_attributes_by_name(self):
+        signer = self.signer_with(attribute_of(self.DIGEST, b"\x04\0"), attribute_of(self.TIME, b"\x05\0"), attribute_of(self.TIME, b"\x04\0"))
+        self.assertEqual(signer.signed_attribute("messageDigest").values, (b"\x04\0",))
+        self.assertEqual(signer.signed_attribute("1.2.840.113549.1.9.4"), signer.signed_attribute("messageDigest"))
+        for name in ("signingTime", "contentType", "", "1.2.840.113549.1.9"):
+            self.assertIsNone(signer.signed_attribute(name))
+
+    def test_certificates(self):
+        of_issuer, of_key = b"\x30\x05\x30\0\x02\x01\x05", b"\x80\x02ab"
+        one, other, keyed, named = certificate_of(5), certificate_of(6), certificate_of(5, b"ab"), certificate_of(5, name=b"\x30\x02\x31\0")
+        for certificates, sid, wanted in (
+            ([one, other], of_issuer, one), ([other], of_issuer, None), ([one, one], of_issuer, one), ([one, keyed], of_issuer, None), ([named, one], of_issuer, one),
+            ([one, keyed, other], of_key, keyed), ([one, certificate_of(7, b"ac")], of_key, None), ([b"\x30\x02\x05\0", b"\xa1\0", keyed], of_key, keyed), ([], of_key, None),
+        ):
+            message = cms_canon.read(message_of(b"".join(certificates), signer_of(sid, ())))
+            self.assertEqual(message.certificate_of(message.signers[0]), wanted)
+
+
+class Changes(unittest.TestCase):
+    def test_what_a_change_is(self):
+        changes = cms_canon.changes(MESSAGE)
+        self.assertEqual(changes[0][:8], ("length made definite", 0, 2, 0, 2, 42, len(MESSAGE) - 2, None))
+        self.assertEqual(str(changes[0]), "at 0 length made definite: 30 80 -> 30 2a")
+        text = cms_canon.list_changes(MESSAGE)
+        self.assertEqual([*map(str, changes)], text.splitlines()[:-1])
+        self.assertEqual(text.splitlines()[-1][-10:], f", {len(changes)} changes"[-10:])
+        self.assertEqual(len(json.loads(cms_canon.list_changes(MESSAGE, json=True))["changes"]), len(changes))
+        for it in changes:
+            self.assertTrue(it.place + it.length <= len(MESSAGE) and it.der_place + it.der_length <= len(DER), it)
+
+    def test_a_member_that_moves(self):
+        algorithms = element(0x31, bytes.fromhex("300506032a0304" "300506032a0303"))
+        fields = b"\x02\x01\x03" + algorithms + bytes.fromhex("300b06092a864886f70d010701") + b"\x31\0"
+        message = element(0x30, bytes.fromhex("06092a864886f70d010702") + element(0xA0, element(0x30, fields)))
+        self.assertEqual([(it.kind, it.first, it.second, it.set) for it in cms_canon.changes(message)], [
+            ("moved", 0, 1, "digestAlgorithms"), ("moved", 1, 0, "digestAlgorithms")])
+
+    def test_der_has_none(self):
+        self.assertEqual((cms_canon.changes(DER), cms_canon.list_changes(DER)), ([], "no change\n"))
+
+    def test_refusals_and_limits(self):
+        for call in (cms_canon.changes, cms_canon.list_changes):
+            for octets, limit in ((DER[:-1], 100), (DER, len(DER) - 1), (b"", 5)):
+                with self.assertRaises(cms_canon.Refused) as wanted:
+                    cms_canon.convert(octets, limit)
+                with self.assertRaises(cms_canon.Refused) as came:
+                    call(octets, limit)
+                self.assertEqual(str(came.exception), str(wanted.exception))
+            self.assertRaises(TypeError, call, "text")
+
+    def test_more_changes_than_the_first_room(self):
+        octets = b"\x30\x81" + bytes([len(DER) - 2]) + DER[2:]
+        certificates = [element(0x30, b"\x02\x03" + number.to_bytes(3, "big")) for number in range(2000, 0, -1)]
+        message = message_of(b"".join(certificates), b"")
+        self.assertEqual(len([it for it in cms_canon.changes(message) if it.set == "certificates"]), 2000)
+        self.assertEqual([it.kind for it in cms_canon.changes(octets)], ["length in fewest octets"])
+
+
+class Pieces(unittest.TestCase):
+    def test_what_a_piece_is(self):
+        pieces = cms_canon.pieces(MESSAGE)
+        self.assertEqual(pieces[:2], [(0, 2, True), (2, 12, False)])
+        self.assertEqual(str(pieces[1]), "Piece(place=2, length=12, made=False)")
+        self.assertEqual([it.end for it in pieces[:2]], [2, 14])
+        self.assertEqual({type(it.made) for it in pieces}, {bool})
+        self.assertEqual(pickle.loads(pickle.dumps(pieces)), pieces)
+        for message in (MESSAGE, bytearray(MESSAGE), memoryview(MESSAGE)):
+            self.assertEqual(b"".join(it.octets(message, memoryview(DER)) for it in cms_canon.pieces(message)), DER)
+
+    def test_one_piece_of_der(self):
+        for der in (DER, COUNTERSIGNED, cms_canon.convert(TWO_SIGNERS)):
+            self.assertEqual(cms_canon.pieces(der), [(0, len(der), False)])
+
+    def test_pieces_of_other_octets(self):
+        for piece in (cms_canon.Piece(len(DER), 1, True), cms_canon.Piece(0, len(DER) + 1, True), cms_canon.Piece(-1, 1, True)):
+            with self.assertRaisesRegex(ValueError, f"^the piece does not lie in the {len(DER)} octets of the DER$"):
+                piece.octets(MESSAGE, DER)
+        with self.assertRaisesRegex(ValueError, "^the piece does not lie in the 0 octets of the message$"):
+            cms_canon.Piece(0, 1, False).octets(b"", DER)
+
+    def test_more_than_the_first_room(self):
+        segments = element(0x04, b"abc") * 20_000
+        content = element(0x30, bytes.fromhex("06092a864886f70d010701") + b"\xa0\x80\x24\x80" + segments + bytes(4))
+        fields = b"\x02\x01\x01\x31\x00" + content + b"\x31\x00"
+        octets = element(0x30, bytes.fromhex("06092a864886f70d010702") + element(0xA0, element(0x30, fields)))
+        der, pieces = cms_canon.convert(octets), cms_canon.pieces(octets)
+        self.assertGreater(len(pieces), 20_000)
+        self.assertEqual(b"".join(it.octets(octets, der) for it in pieces), der)
+
+
+class Accounts(unittest.TestCase):
+    def test_each_type_of_octets(self):
+        account = cms_canon.account(MESSAGE)
+        self.assertIs(type(account), bytes)
+        for kind in (bytes, bytearray, memoryview):
+            self.assertEqual(cms_canon.account(kind(MESSAGE)), account)
+            message = cms_canon.restore(kind(DER), kind(account))
+            self.assertEqual(message, MESSAGE)
+            self.assertIs(type(message), bytes)
+
+    def test_other_types_are_errors(self):
+        account = cms_canon.account(MESSAGE)
+        for data in (MESSAGE.hex(), 5, None, [48, 128]):
+            for call in (cms_canon.account, cms_canon.pieces):
+                with self.assertRaises(TypeError):
+                    call(data)
+            for words in ((data, account), (DER, data)):
+                with self.assertRaises(TypeError):
+                    cms_canon.restore(*words)
+
+    def test_limits(self):
+        account = cms_canon.account(MESSAGE, limit=len(MESSAGE))
+        for call in (cms_canon.account, cms_canon.pieces):
+            with self.assertRaisesRegex(cms_canon.Refused, "refused E2 TooLarge at"):
+                call(MESSAGE, limit=len(MESSAGE) - 1)
+        self.assertEqual(cms_canon.restore(DER, account, limit=len(MESSAGE)), MESSAGE)
+        with self.assertRaisesRegex(cms_canon.NotRestored, f"^not restored: the original has 60 octets, and the limit is 59$"):
+            cms_canon.restore(DER, account, limit=len(MESSAGE) - 1)
+        for call in (cms_canon.account, cms_canon.pieces, lambda data, limit: cms_canon.restore(DER, account, limit)):
+            for limit in (-1, 2**40 + 1):
+                with self.assertRaisesRegex(ValueError, "^a limit is from 0 to 2"):
+                    call(MESSAGE, limit=limit)
+            with self.assertRaisesRegex(TypeError, "^a limit is a whole number, not float$"):
+                call(MESSAGE, limit=1000.0)
+        for call in (cms_canon.account, cms_canon.pieces, cms_canon.restore):
+            self.assertEqual(inspect.signature(call).parameters["limit"].default, cms_canon.LIMIT)
+
+    def test_refusals(self):
+        for octets, line in ((b"", "refused E1 Truncated at 0"), (MESSAGE + b"\n", f"refused E18 Trailing at {len(MESSAGE) + 1}")):
+            for call in (cms_canon.account, cms_canon.pieces):
+                with self.assertRaisesRegex(cms_canon.Refused, f"^{line}$"):
+                    call(octets)
+
+    def test_what_the_error_says(self):
+        account = cms_canon.account(MESSAGE)
+        with self.assertRaises(cms_canon.NotRestored) as caught:
+            cms_canon.restore(DER, account[:-1])
+        error = caught.exception
+        self.assertIsInstance(error, ValueError)
+        self.assertNotIsInstance(error, cms_canon.Refused)
+        self.assertEqual((error.why, error.at), ("the account is cut off", len(account) - 1))
+        self.assertEqual(str(error), f"not restored: the account is cut off, at octet {len(account) - 1} of the account")
+        again = pickle.loads(pickle.dumps(error))
+        self.assertEqual((str(again), again.why, again.at), (str(error), error.why, error.at))
+
+    def test_why_not(self):
+        account = cms_canon.account(MESSAGE)
+        head = account[:72]
+        for der, wrong, why in (
+            (account, DER, "this is no account: it does not begin with CMSACCT, at octet 0 of the account"),
+            (DER, b"", "this is no account: it does not begin with CMSACCT, at octet 0 of the account"),
+            (DER, account[:7], "the account is cut off, at octet 7 of the account"),
+            (DER, account[:7] + b"\2" + account[8:], "the account is of version 2, and this release knows version 1, at octet 7 of the account"),
+            (DER, account[:71], "the account is cut off, at octet 71 of the account"),
+            (DER, head, "the account is cut off, at octet 72 of the account"),
+            (DER, account + b"\0", f"octets follow the last instruction, at octet {len(account)} of the account"),
+            (DER, head + b"\x3c\x00", "an instruction gives no octets, at octet 73 of the account"),
+            (DER, head + b"\x3c\x01\x00", "an instruction gives no octets, at octet 73 of the account"),
+            (DER, head + b"\x3c\x7b\x00", "an instruction gives 61 octets, and the original has 60 more, at octet 73 of the account"),
+            (DER, head + b"\x3c\x03\x2c", "1 octets are copied from 44 on, and the DER has 44, at octet 73 of the account"),
+            (DER, head + b"\xbc\x00", "a number has more octets than it needs, at octet 72 of the account"),
+            (DER, head + b"\xbc" * 6, "a number has more than 6 octets, at octet 72 of the account"),
+            (DER, head + b"\xbc" * 5, "the account is cut off, at octet 77 of the account"),
+            (DER, head + b"\xff\x7f", "the original has 16383 octets, more than the DER and the account together"),
+            (MESSAGE, account, "the DER is not the one that the account was made from"),
+            (DER, account[:8] + bytes(32) + account[40:], "what comes is not the original: its SHA-256 is another one"),
+            (DER, account[:8] + sha256(b"a").digest() + account[40:72] + b"\x01\x02a", "what comes is no message that has this DER"),
+        ):
+            with self.assertRaises(cms_canon.NotRestored) as caught:
+                cms_canon.restore(der, wrong)
+            self.assertEqual(str(caught.exception), f"not restored: {why}")
+
+    def test_another_message_with_digests_that_fit(self):
+        other = DER[:-3] + b"\x22" + DER[-2:]  # in which the last octet of the content is another one
+        account = cms_canon.account(other)
+        forged = account[:40] + sha256(DER).digest() + account[72:73] + b"\x58" + other
+        with self.assertRaisesRegex(cms_canon.NotRestored, "^not restored: what comes is no message that has this DER$"):
+            cms_canon.restore(DER, forged)
+
+    def test_without_memory(self):
+        def fail(*words):
+            words[-1].status = 5
+
+        account = cms_canon.account(MESSAGE)
+        for name, call in (("pieces", cms_canon.pieces), ("pieces", cms_canon.account), ("convert", cms_canon.account)):
+            with mock.patch.object(library, f"cms_canon_{name}", fail), self.assertRaisesRegex(MemoryError, "^out of memory$"):
+                call(MESSAGE)
+        with mock.patch.object(library, "cms_canon_convert", fail), self.assertRaisesRegex(MemoryError, "^out of memory$"):
+            cms_canon.restore(DER, account)
+        with mock.patch.object(_restoring, "BytesIO", side_effect=MemoryError), self.assertRaises(MemoryError):
+            cms_canon.restore(DER, account)
+        self.assertEqual(cms_canon.restore(DER, account), MESSAGE)
+
+    def test_an_account_is_tried_before_it_is_returned(self):
+        with mock.patch.object(_restoring, "_instructions", lambda octets, copies: [b"\2\0"]):
+            with self.assertRaisesRegex(cms_canon.NotRestored, "^not restored: the account is cut off"):
+                cms_canon.account(MESSAGE)
+        with mock.patch.object(_restoring, "restore") as restore:
+            account = cms_canon.account(MESSAGE, limit=1000)
+        restore.assert_called_once_with(DER, account, 1000)
+
+    def test_octets_that_change_meanwhile(self):
+        account, given = bytearray(cms_canon.account(MESSAGE)), bytearray(DER)
+
+        def changing(octets):
+            given[:], account[:] = bytes(len(given)), bytes(len(account))
+            return sha256(octets)
+
+        with mock.patch.object(_restoring, "sha256", changing):
+            self.assertEqual(cms_canon.restore(given, account), MESSAGE)
+
+    def test_four_at_once(self):
+        wrong = []
+
+        def restore_often():
+            wrong.extend(1 for _ in range(500) if cms_canon.restore(DER, cms_canon.account(MESSAGE)) != MESSAGE)
+
+        in_four_threads(restore_often)
+        self.assertEqual(wrong, [])
+
+
 class Samples(unittest.TestCase):
-    def test_the_fields_in_the_readme(self):
-        (sample,) = re.findall(r"^```python\n(message = .*?)^```$", (HERE.parent / "README.md").read_text(), re.M | re.S)
-        printed = io.StringIO()
-        with contextlib.redirect_stdout(printed):
-            exec(sample, {"cms_canon": cms_canon, "Path": lambda name: HERE.parents[2] / "examples" / name})
-        self.assertEqual(printed.getvalue().splitlines(), re.findall(r"  # (.*)$", sample, re.M))
+    def test_samples_in_the_readme(self):
+        known = {"cms_canon": cms_canon, "Path": lambda name: HERE.parents[2] / "examples" / name}
+        for variable in ("message", "certificate", "original"):  # of the fields, of what has a name, and of accounts
+            (sample,) = re.findall(rf"^```python\n({variable} = .*?)^```$", (HERE.parent / "README.md").read_text(), re.M | re.S)
+            printed = io.StringIO()
+            with contextlib.redirect_stdout(printed):
+                exec(sample, known)
+            self.assertEqual(printed.getvalue().splitlines(), re.findall(r"  # (.*)$", sample, re.M))
 
 
 class ObjectIdentifiers(unittest.TestCase):
@@ -844,7 +1176,7 @@ def in_four_threads(do):
 
 class Types(unittest.TestCase):
     def test_the_calls_are_typed(self):
-        for name in ("convert", "convert_many", "cover", "show", "same", "check", "read"):
+        for name in ("account", "convert", "convert_many", "cover", "show", "same", "check", "pieces", "read", "restore"):
             call = getattr(cms_canon, name)
             hints = typing.get_type_hints(call)
             self.assertEqual(set(hints), {*inspect.signature(call).parameters, "return"})

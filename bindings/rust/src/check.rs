@@ -24,11 +24,13 @@ pub struct Finding {
 
 impl Finding {
     /// Returns 1 to 19 for F1 to F19.
+    #[must_use]
     pub fn code(&self) -> u32 {
         self.code
     }
 
     /// Returns the number of the signer that breaks it, in the order read, from 0; none for a rule for the message.
+    #[must_use]
     pub fn signer(&self) -> Option<u64> {
         (self.has_signer != 0).then_some(self.signer)
     }
@@ -67,16 +69,19 @@ pub struct Job<'j> {
 
 impl<'j> Job<'j> {
     /// Returns the number of the signer in the order read, from 0.
+    #[must_use]
     pub fn number(&self) -> u64 {
         self.number
     }
 
     /// Returns the signer.
+    #[must_use]
     pub fn signer(&self) -> Signer<'j> {
         self.signer
     }
 
     /// Returns the certificates of the message in the order read, each one element: a Certificate (RFC 5280) if it begins with 30.
+    #[must_use]
     pub fn certificates(&self) -> &'j [&'j [u8]] {
         self.message.signed_data().and_then(|it| it.certificates.as_deref()).unwrap_or_default()
     }

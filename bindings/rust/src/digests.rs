@@ -33,6 +33,7 @@ impl DigestAlgorithm {
     const ALL: [Self; 7] = [Self::Sha1, Self::Sha224, Self::Sha256, Self::Sha384, Self::Sha512, Self::Sha512_224, Self::Sha512_256];
 
     /// Returns how many octets a digest has.
+    #[must_use]
     pub const fn octets(self) -> usize {
         match self {
             Self::Sha1 => 20,
@@ -60,6 +61,7 @@ pub struct Digest {
 
 impl Digest {
     /// Returns the digest with these octets; none if the algorithm has another number of them.
+    #[must_use]
     pub fn new(algorithm: DigestAlgorithm, octets: &[u8]) -> Option<Self> {
         let mut all = [0; 64];
         (octets.len() == algorithm.octets()).then(|| {
@@ -69,11 +71,13 @@ impl Digest {
     }
 
     /// Returns its algorithm.
+    #[must_use]
     pub fn algorithm(&self) -> DigestAlgorithm {
         self.algorithm
     }
 
     /// Returns its octets.
+    #[must_use]
     pub fn octets(&self) -> &[u8] {
         &self.all[..self.algorithm.octets()]
     }

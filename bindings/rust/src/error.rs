@@ -7,7 +7,7 @@ const NO_SIGNED_DATA: u32 = 101; // the first of the reasons that are none of E1
 const NO_CONTENT: u32 = 103;
 
 /// Why a call fails.
-#[derive(Clone, Debug, PartialEq, Eq)]
+#[derive(Clone, PartialEq, Eq)]
 pub enum Error {
     /// A message is refused, or does not have what is asked for, or digests do not suffice.
     Refused(Refused),
@@ -17,7 +17,7 @@ pub enum Error {
 
 /// Why a message is refused, or that it does not have what is asked for, or that digests do not suffice. Its text is the line of
 /// the command, as `refused E6 Overrun at 4`.
-#[derive(Clone, Debug, PartialEq, Eq)]
+#[derive(Clone, PartialEq, Eq)]
 pub struct Refused {
     reason: u32,
     at: u64,
@@ -49,23 +49,27 @@ impl Refused {
 
     /// Returns 1 to 19 for E1 to E19. 101: no signed data. 102: no such signer. 103: no content. 105: not a TSTInfo in DER.
     /// 106: digest not given. 107: needs the content.
+    #[must_use]
     pub fn reason(&self) -> u32 {
         self.reason
     }
 
     /// Returns the name of the reason, as `Overrun` or `no such signer`.
+    #[must_use]
     pub fn name(&self) -> &str {
         let end = self.name.iter().position(|it| *it == 0).unwrap_or(self.name.len());
         std::str::from_utf8(&self.name[..end]).unwrap_or_default()
     }
 
     /// Returns how many octets of the message were read when it was refused by one of E1 to E19; none for the other reasons.
+    #[must_use]
     pub fn at(&self) -> Option<u64> {
         (self.reason < NO_SIGNED_DATA).then_some(self.at)
     }
 
     /// Returns which message is refused: of [`same`](crate::same) 1 or 2, of [`convert_many`](crate::convert_many) its number from
     /// 0; none if there is but one.
+    #[must_use]
     pub fn message(&self) -> Option<u64> {
         match self.which {
             Which::Only => None,
@@ -91,6 +95,13 @@ impl fmt::Display for Refused {
     }
 }
 
+/// The same text, which is what `main` prints of an error that it returns.
+impl fmt::Debug for Refused {
+    fn fmt(&self, to: &mut fmt::Formatter<'_>) -> fmt::Result {
+        fmt::Display::fmt(self, to)
+    }
+}
+
 impl error::Error for Refused {}
 
 impl fmt::Display for Error {
@@ -99,6 +110,13 @@ impl fmt::Display for Error {
             Error::Refused(refused) => refused.fmt(to),
             Error::OutOfMemory => to.write_str("out of memory"),
         }
+    }
+}
+
+/// The same text, which is what `main` prints of an error that it returns.
+impl fmt::Debug for Error {
+    fn fmt(&self, to: &mut fmt::Formatter<'_>) -> fmt::Result {
+        fmt::Display::fmt(self, to)
     }
 }
 

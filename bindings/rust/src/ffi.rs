@@ -101,6 +101,13 @@ extern "C" {
     fn cms_canon_pieces(
         input: *const u8, input_length: usize, limit: u64, pieces: *mut u64, pieces_room: usize, outcome: *mut Outcome,
     );
+    fn cms_canon_changes(
+        input: *const u8, input_length: usize, limit: u64, changes: *mut u64, changes_room: usize, outcome: *mut Outcome,
+    );
+    fn cms_canon_list_changes(
+        input: *const u8, input_length: usize, json: bool, limit: u64, output: *mut u8, output_room: usize,
+        outcome: *mut Outcome,
+    );
     // The end of the calls.
 }
 
@@ -225,6 +232,29 @@ pub(crate) fn show(input: &[u8], limit: u64) -> Result<Vec<u8>, Error> {
     unsafe {
         written(LISTING, |output, room, outcome| {
             cms_canon_show(input.as_ptr(), input.len(), limit, output, room, outcome);
+        })
+    }
+}
+
+/// A change: `struct cms_canon_change`, as its words.
+#[repr(transparent)]
+#[derive(Clone, Copy)]
+pub(crate) struct ChangeRow(pub(crate) [u64; 8]);
+
+pub(crate) fn changes(input: &[u8], limit: u64) -> Result<Vec<ChangeRow>, Error> {
+    // SAFETY: as in `convert`, with changes in place of octets.
+    unsafe {
+        written(first_records(input), |changes: *mut ChangeRow, room, outcome| {
+            cms_canon_changes(input.as_ptr(), input.len(), limit, changes.cast(), room, outcome);
+        })
+    }
+}
+
+pub(crate) fn list_changes(input: &[u8], json: bool, limit: u64) -> Result<Vec<u8>, Error> {
+    // SAFETY: as in `convert`.
+    unsafe {
+        written(LISTING, |output, room, outcome| {
+            cms_canon_list_changes(input.as_ptr(), input.len(), json, limit, output, room, outcome);
         })
     }
 }

@@ -17,19 +17,26 @@
 //! The calls run the proved code of the C library, which is linked into the program. Any number of threads may call at once.
 #![deny(unsafe_code, unsafe_op_in_unsafe_fn, missing_docs)]
 
+mod attributes;
+mod certificates;
+mod change_names;
+mod changes;
 mod check;
 mod digests;
+mod elements;
 mod error;
 #[allow(unsafe_code)]
 mod ffi;
 mod kinds;
 mod message;
+mod names;
 mod reader;
 mod records;
 mod rows;
 mod texts;
 mod values;
 
+pub use changes::Change;
 pub use check::{Finding, Job, Verdict};
 pub use digests::{ContentAsked, Digest, DigestAlgorithm, DigestsAsked};
 pub use error::{Error, Refused};
@@ -57,11 +64,13 @@ impl Limit {
     const MOST: u64 = 1 << 40;
 
     /// Returns a limit of so many octets, or of 2^40 if they are more.
+    #[must_use]
     pub const fn of(octets: u64) -> Self {
         Limit(if octets < Self::MOST { octets } else { Self::MOST })
     }
 
     /// Returns how many octets the limit is.
+    #[must_use]
     pub const fn octets(self) -> u64 {
         self.0
     }
@@ -74,6 +83,16 @@ impl Limit {
     /// As [`convert_many`].
     pub fn convert_many(self, input: &[u8]) -> Result<Many, Error> {
         ffi::convert_many(input, self.0)
+    }
+
+    /// As [`changes`].
+    pub fn changes(self, input: &[u8]) -> Result<Vec<Change>, Error> {
+        changes::changes(input, self.0)
+    }
+
+    /// As [`list_changes`].
+    pub fn list_changes(self, input: &[u8], json: bool) -> Result<String, Error> {
+        changes::listing(input, json, self.0)
     }
 
     /// As [`show`].
@@ -124,6 +143,17 @@ pub fn convert(input: &[u8]) -> Result<Vec<u8>, Error> {
 /// the new ones.
 pub fn convert_many(input: &[u8]) -> Result<Many, Error> {
     Limit::DEFAULT.convert_many(input)
+}
+
+/// Returns what [`convert`] changes in the one message in `input`, in its order; empty if it is its own DER.
+pub fn changes(input: &[u8]) -> Result<Vec<Change>, Error> {
+    Limit::DEFAULT.changes(input)
+}
+
+/// Returns the same as the command `changes` writes it: a line for each change, and one that counts them and the octets; or one object of
+/// JSON, if `json` is true.
+pub fn list_changes(input: &[u8], json: bool) -> Result<String, Error> {
+    Limit::DEFAULT.list_changes(input, json)
 }
 
 /// Returns the listing of the one message in `input`, as the command `show` writes it: a line for each of its parts.

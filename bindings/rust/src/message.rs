@@ -20,6 +20,7 @@ pub enum Message<'a> {
 
 impl<'a> Message<'a> {
     /// Returns the SignedData that the message is, or that of the token of a response.
+    #[must_use]
     pub fn signed_data(&self) -> Option<&SignedData<'a>> {
         match self {
             Message::SignedData(signed) => Some(signed),
@@ -29,11 +30,13 @@ impl<'a> Message<'a> {
     }
 
     /// Returns the signers in the order read; of a response, those of its token.
+    #[must_use]
     pub fn signers(&self) -> impl ExactSizeIterator<Item = Signer<'_>> {
         self.signer_infos().iter().map(|info| Signer { info, content: self.content() })
     }
 
     /// Returns the signer with this number in the order read, from 0.
+    #[must_use]
     pub fn signer(&self, number: usize) -> Option<Signer<'_>> {
         self.signer_infos().get(number).map(|info| Signer { info, content: self.content() })
     }
@@ -43,6 +46,7 @@ impl<'a> Message<'a> {
     }
 
     /// Returns the content; none if it is detached. Of a response, it is that of its token.
+    #[must_use]
     pub fn content(&self) -> Option<&[u8]> {
         self.signed_data().and_then(|it| it.content.as_deref())
     }
@@ -91,12 +95,14 @@ impl<'m> Deref for Signer<'m> {
 
 impl<'m> Signer<'m> {
     /// Returns the fields, which live as long as the message.
+    #[must_use]
     pub fn info(&self) -> &'m SignerInfo<'m> {
         self.info
     }
 
     /// Returns what is signed: the content of the message, none if it is detached; of a countersignature the octets of the
     /// signature that it signs.
+    #[must_use]
     pub fn content(&self) -> Option<&'m [u8]> {
         self.content
     }

@@ -12,6 +12,7 @@ impl<'a> Oid<'a> {
     }
 
     /// Returns its contents octets (X.690, section 8.19).
+    #[must_use]
     pub fn contents(&self) -> &'a [u8] {
         self.0
     }
@@ -56,11 +57,13 @@ impl<'a> Integer<'a> {
 
     /// Returns its contents octets: two's complement, the most significant octet first, and no octet more than needed (X.690,
     /// section 8.3).
+    #[must_use]
     pub fn contents(&self) -> &'a [u8] {
         self.0
     }
 
     /// Returns the number, if it fits.
+    #[must_use]
     pub fn to_i128(&self) -> Option<i128> {
         let first = *self.0.first()?;
         let sign = if first < 0x80 { 0 } else { -1 };
@@ -68,6 +71,7 @@ impl<'a> Integer<'a> {
     }
 
     /// Returns the number, if it fits.
+    #[must_use]
     pub fn to_u64(&self) -> Option<u64> {
         self.to_i128().and_then(|it| it.try_into().ok())
     }
@@ -102,11 +106,13 @@ impl<'a> NamedBits<'a> {
 
     /// Returns its contents octets, as they were received: how many bits of the last octet are not used, and the octets of the
     /// bits. Octets that differ may stand for the same bits.
+    #[must_use]
     pub fn contents(&self) -> &'a [u8] {
         self.0
     }
 
     /// Returns whether the bit with this number is set, from 0 for the first one. A bit past the end is not set.
+    #[must_use]
     pub fn is_set(&self, number: usize) -> bool {
         let Some((unused, octets)) = self.0.split_first() else {
             return false;
@@ -127,16 +133,19 @@ impl<'a> GeneralizedTime<'a> {
     }
 
     /// Returns the text.
+    #[must_use]
     pub fn as_str(&self) -> &'a str {
         self.0
     }
 
     /// Returns the digits of the fraction of a second; none if there is no fraction.
+    #[must_use]
     pub fn fraction(&self) -> &'a str {
         self.0[14..].trim_matches(['.', 'Z'])
     }
 
     /// Returns the seconds since 1970-01-01 00:00:00 UTC, without the fraction.
+    #[must_use]
     pub fn unix_seconds(&self) -> i64 {
         let number = |begin: usize, end: usize| self.0[begin..end].bytes().fold(0, |number, it| number * 10 + i64::from(it & 0x0f));
         let days = days_before(number(0, 4), number(4, 6)) + number(6, 8) - 1;
@@ -154,6 +163,19 @@ impl fmt::Debug for GeneralizedTime<'_> {
     fn fmt(&self, to: &mut fmt::Formatter<'_>) -> fmt::Result {
         to.write_str(self.0)
     }
+}
+
+/// Whether digits as `20240229235959` are a date, but for the year 0000, and a time of day without leap seconds.
+pub(crate) fn is_date(digits: &str) -> bool {
+    if digits.len() != 14 || !digits.bytes().all(|it| it.is_ascii_digit()) {
+        return false;
+    }
+    let number = |begin: usize, end: usize| digits[begin..end].parse::<i64>().unwrap_or(-1);
+    let (year, month, day) = (number(0, 4), number(4, 6), number(6, 8));
+    let is_month = (1..=12).contains(&month);
+    let (next_year, next_month) = if month == 12 { (year + 1, 1) } else { (year, month + 1) };
+    let is_day = is_month && 1 <= day && day <= days_before(next_year, next_month) - days_before(year, month);
+    year > 0 && is_day && number(8, 10) < 24 && number(10, 12) < 60 && number(12, 14) < 60
 }
 
 /// The days from 1970-01-01 to the first day of a month, in the Gregorian calendar.

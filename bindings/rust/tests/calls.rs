@@ -49,6 +49,39 @@ fn refusals_are_those_of_convert() {
 }
 
 #[test]
+fn changes_are_those_of_the_text() {
+    let message = countersigned();
+    let (der, changes) = (cms_canon::convert(&message).unwrap(), cms_canon::changes(&message).unwrap());
+    let text = cms_canon::list_changes(&message, false).unwrap();
+    let lines: Vec<String> = changes.iter().map(ToString::to_string).collect();
+    assert_eq!(lines, text.lines().take(changes.len()).collect::<Vec<_>>());
+    assert!(text.ends_with(&format!(", {} changes\n", changes.len())), "{text}");
+    let mut kinds: Vec<&str> = changes.iter().map(|it| it.kind).collect();
+    kinds.dedup();
+    assert!(kinds.contains(&"segments joined") && changes.iter().all(|it| it.set.is_none()), "{kinds:?}");
+    for it in &changes {
+        assert!(it.place + it.length <= message.len() as u64 && it.der_place + it.der_length <= der.len() as u64, "{it}");
+    }
+    assert!(cms_canon::list_changes(&message, true).unwrap().starts_with("{\"changes\": [{\"change\": \""));
+    assert_eq!(
+        (cms_canon::changes(&der).unwrap(), cms_canon::list_changes(&der, false).unwrap().as_str()),
+        (vec![], "no change\n")
+    );
+    assert_eq!(refusal_of(cms_canon::changes(&der[1..])), refusal_of(cms_canon::convert(&der[1..])));
+    assert_eq!(refusal_of(Limit::of(3).changes(&der)), refusal_of(Limit::of(3).convert(&der)));
+}
+
+#[test]
+fn a_member_that_moves_says_its_set() {
+    let (one, other) = (octets("300506032a0304"), octets("300506032a0303"));
+    let fields = [&octets("020103")[..], &element(0x31, &[&one, &other]), &element(0x30, &[&octets(DATA)]), &octets("3100")];
+    let message = element(0x30, &[&octets("06092a864886f70d010702"), &element(0xa0, &[&element(0x30, &fields)])]);
+    let changes = cms_canon::changes(&message).unwrap();
+    let moved: Vec<_> = changes.iter().filter(|it| it.kind == "moved").map(|it| (it.first, it.second, it.set)).collect();
+    assert_eq!(moved, [(0, 1, Some("digestAlgorithms")), (1, 0, Some("digestAlgorithms"))]);
+}
+
+#[test]
 fn refusals_of_two_and_of_many_messages_say_which() {
     let message = octets(TWO_SIGNERS);
     assert_eq!(refusal_of(cms_canon::same(&[], &message)), "1 Some(0) first: refused E1 Truncated at 0 Some(1)");

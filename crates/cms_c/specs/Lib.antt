@@ -1,5 +1,6 @@
 pub mod Calls
 pub mod Pieces
+pub mod Changes
 pub mod Digests
 pub mod Extents
 pub mod Many

@@ -6,6 +6,7 @@
 //! pointers gets no generated proof.
 #![tactic(auto)]
 
+mod changes;
 mod check;
 mod convert;
 mod cover;
@@ -20,6 +21,7 @@ mod pieces;
 mod same;
 mod show;
 
+pub use changes::{Change, cms_canon_changes, cms_canon_list_changes};
 pub use check::{Finding, cms_canon_check};
 pub use convert::cms_canon_convert;
 pub use cover::cms_canon_cover;

@@ -3,7 +3,7 @@ use Rattle.std.proofs.Common.{◌≡◌, ◌⊎◌, inl, inr, ℕ, List, [], Opt
 use Rattle.std.proofs.KnownBytes.{Consumes-nil, Appends-nil}
 use Rattle.std.proofs.lemmas.List.Elements.{All-nil}
 use Rattle.cms_cli.specs.declared.task.Task.{Task}
-use Rattle.cms_cli.specs.declared.task.Task.TheVariants.{Convert, Show, Check, Cover, Same}
+use Rattle.cms_cli.specs.declared.task.Task.TheVariants.{Convert, Show, Changes, Check, Cover, Same}
 use Rattle.cms_cli.specs.declared.task.NoTask.{NoTask}
 use Rattle.cms_cli.specs.declared.task.NoTask.TheVariants.{OutOfMemory}
 use Rattle.cms_tlv.specs.declared.fault.Fault.{Fault}
@@ -98,5 +98,6 @@ module _ (left out : Option (List ℕ)) (failures failed status : ℕ) (wanted :
   not_done (Convert true) = none_converted
   not_done (Cover signer content) = not_covered content signer
   not_done Show = inr (faults.OutOfMemory, none command_limit tails.Refuse, (refl, refl), wanted)
+  not_done (Changes json) = inr (faults.OutOfMemory, none command_limit tails.Refuse, (refl, refl), wanted)
   not_done (Check a) = inr (faults.OutOfMemory, given command_limit (reads_rest a), (refl, refl), wanted)
   not_done Same = inr (faults.OutOfMemory, (same.First faults.OutOfMemory, refl, none command_limit tails.Leave), (refl, refl), wanted)

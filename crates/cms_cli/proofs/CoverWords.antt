@@ -14,7 +14,7 @@ use Rattle.cms_cli.proofs.Entered.{kept}
 abbrev Reads : ℕ → Type 0
 Reads d =
     (p ds : Text) (c : Bool) → option_map kept (subcommand_of program_app (cover_words p (d ∷ ds) c))
-    ≡ Some (codes "cover", Some (d ∷ ds), Some (flag_text c), None, None)
+    ≡ Some (codes "cover", Some (d ∷ ds), Some (flag_text c), None, None, None)
 
 abbrev Takes : ℕ → Type 0
 Takes d = (p ds : Text) (c : Bool) → accepts false (Unsigned 0 18446744073709551615) (d ∷ ds) ≡ true → takes program_app (cover_words p (d ∷ ds) c) ≡ true

@@ -9,15 +9,29 @@ use Rattle.clap.specs.declared.parser.matches.Found.{Found}
 use Rattle.clap.specs.declared.parser.matches.SubCommand.{SubCommand}
 use Rattle.clap.proofs.WalkLemmas.{one_text-rows}
 
--- a name, and the texts of `--signer`, `--content`, `--data` and `--many`
+-- a name, and the texts of `--signer`, `--content`, `--data`, `--many` and `--json`
 abbrev pub Kept : Type 0
-Kept = Text × Option Text × Option Text × Option Text × Option Text
+Kept = Text × Option Text × Option Text × Option Text × Option Text × Option Text
 
 abbrev pub kept : Text × List Row → Kept
-kept q = (q.0, one_of (codes "signer") q.1, one_of (codes "content") q.1, one_of (codes "data") q.1, one_of (codes "many") q.1)
+kept q = (
+  q.0,
+  one_of (codes "signer") q.1,
+  one_of (codes "content") q.1,
+  one_of (codes "data") q.1,
+  one_of (codes "many") q.1,
+  one_of (codes "json") q.1,
+)
 
 abbrev pub kept_in : Text → Found → Kept
-kept_in name f = (name, one_text f (codes "signer"), one_text f (codes "content"), one_text f (codes "data"), one_text f (codes "many"))
+kept_in name f = (
+  name,
+  one_text f (codes "signer"),
+  one_text f (codes "content"),
+  one_text f (codes "data"),
+  one_text f (codes "many"),
+  one_text f (codes "json"),
+)
 
 -- the subcommand's name, from its rows
 same_name : (m : ArgMatches) → subcommand_name_of m ≡ option_map (λ q. q.0) (subcommand_rows_of m)
@@ -45,5 +59,6 @@ entered m name f wanted named rows = go (subcommand_rows_of m) (named ∙ same_n
           one_text-rows f (codes "content"),
           one_text-rows f (codes "data"),
           one_text-rows f (codes "many"),
+          one_text-rows f (codes "json"),
         ) refl in
         here ∙ ap₂ (λ x y. kept (x, y)) name_is rows_are ∙ ap (λ o. unwrap_or o wanted) h

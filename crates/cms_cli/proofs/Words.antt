@@ -5,7 +5,7 @@ use Rattle.clap.specs.Words.{Text, is_simple, subcommand_of, takes}
 use Rattle.clap.proofs.OnLiterals.{clap_on_literals}
 use Rattle.cms_cli.specs.declared.task.After.TheVariants.{Nothing, Content, Data}
 use Rattle.cms_cli.specs.declared.task.Task.{Task}
-use Rattle.cms_cli.specs.declared.task.Task.TheVariants.{Convert, Show, Check, Cover, Same}
+use Rattle.cms_cli.specs.declared.task.Task.TheVariants.{Convert, Show, Changes, Check, Cover, Same}
 use Rattle.cms_cli.specs.CommandLine.{program_app, AskFor, AskForBoth, IsNumber, cover_words, flag_text}
 use Rattle.cms_cli.proofs.Entered.{Kept, kept}
 use Rattle.cms_cli.proofs.CoverWords.{reads as reads_cover, taken as taken_cover, accepted}
@@ -19,26 +19,30 @@ abbrev pub Refines : List Text → Kept → Type 0
 Refines words k = (takes program_app words ≡ true) × (option_map kept (subcommand_of program_app words) ≡ Some k)
 
 abbrev pub plain : Text → Kept
-plain name = (name, None, None, None, None)
+plain name = (name, None, None, None, None, None)
 
 abbrev pub flags : Bool → Bool → Kept
-flags with_content with_data = (codes "check", None, Some (flag_text with_content), Some (flag_text with_data), None)
+flags with_content with_data = (codes "check", None, Some (flag_text with_content), Some (flag_text with_data), None, None)
 
 abbrev pub many_flag : Bool → Kept
-many_flag many = (codes "convert", None, None, None, Some (flag_text many))
+many_flag many = (codes "convert", None, None, None, Some (flag_text many), None)
+
+abbrev pub json_flag : Bool → Kept
+json_flag json = (codes "changes", None, None, None, None, Some (flag_text json))
 
 -- what is kept of the words of a task
 abbrev pub kept_of : (words : List Text) (task : Task) → AskFor words task → Kept
 kept_of words (Convert many) h = many_flag many
 kept_of words Show h = plain (codes "show")
+kept_of words (Changes json) h = json_flag json
 kept_of words (Check Nothing) h = flags false false
 kept_of words (Check Content) h = flags true false
 kept_of words (Check Data) h = flags false true
-kept_of words (Cover n b) h = (codes "cover", Some h.1, Some (flag_text b), None, None)
+kept_of words (Cover n b) h = (codes "cover", Some h.1, Some (flag_text b), None, None, None)
 kept_of words Same h = plain (codes "same")
 
 cover_gives : (p digits : Text) (n : ℕ) (b : Bool) → IsNumber digits n
-    → Refines (cover_words p digits b) (codes "cover", Some digits, Some (flag_text b), None, None)
+    → Refines (cover_words p digits b) (codes "cover", Some digits, Some (flag_text b), None, None, None)
 cover_gives p [] n b h = absurd (let l = h.0.0 in omega arith)
 cover_gives p (d ∷ ds) n b h =
     let digit = digit_from_value d h.0.1.0 in
@@ -49,6 +53,8 @@ unfolding clap_on_literals
 gives words (Convert true) h = rw (h.1) (refl, refl)
 gives words (Convert false) h = rw (h.1) (refl, refl)
 gives words Show h = rw (h.1) (refl, refl)
+gives words (Changes true) h = rw (h.1) (refl, refl)
+gives words (Changes false) h = rw (h.1) (refl, refl)
 gives words (Check Nothing) h = rw (h.1) (refl, refl)
 gives words (Check Content) h = rw (h.1) (refl, refl)
 gives words (Check Data) h = rw (h.1) (refl, refl)

@@ -45,8 +45,8 @@ fault_of (same.First e) = e
 fault_of (same.Second e) = e
 fault_of same.OutOfMemory = faults.OutOfMemory
 
---- `IsListed r limit status text`: `show`: a message was read with nothing after it; the status is
----   0
+--- `IsListed r limit status text`: `show` and `changes`: a message was read with nothing after it;
+---   the status is 0
 abbrev pub IsListed : Reading → ℕ → ℕ → List ℕ → Type 0
 IsListed r limit status text = (m : Whole) × IsRead r limit tails.Refuse m × (status ≡ 0)
 
@@ -146,6 +146,8 @@ IsDone (task.Convert false) r w status = IsConverted r w status
 IsDone (task.Convert true) r w status = AreAllConverted r w status
 IsDone (task.Cover signer content) r w status = IsCovered r w content signer status
 IsDone task.Show r w status =
+    IsAnswered w (IsListed r command_limit) (ExactFaults r command_limit tails.Refuse) status
+IsDone (task.Changes json) r w status =
     IsAnswered w (IsListed r command_limit) (ExactFaults r command_limit tails.Refuse) status
 IsDone (task.Check a) r w status =
     IsAnswered w (IsChecked r command_limit a) (GivenFaults r command_limit (reads_rest a)) status

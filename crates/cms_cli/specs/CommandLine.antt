@@ -12,14 +12,14 @@ use Rattle.cms_cli.specs.declared.task.After.TheVariants.{Nothing, Content, Data
 use Rattle.cms_cli.specs.declared.task.NoTask.{NoTask}
 use Rattle.cms_cli.specs.declared.task.NoTask.TheVariants.{Usage}
 use Rattle.cms_cli.specs.declared.task.Task.{Task}
-use Rattle.cms_cli.specs.declared.task.Task.TheVariants.{Convert, Show, Check, Cover, Same}
+use Rattle.cms_cli.specs.declared.task.Task.TheVariants.{Convert, Show, Changes, Check, Cover, Same}
 
 -- an option without a value, as `--content`
 abbrev pub flag_rule : List ℕ → Rule
 flag_rule name = record (new_rule name) { long = Some name; action = Some SetTrue }
 
 --- `signer_rule`, `flag_rule`: the option `--signer` of `cover`; an option without a value, as
----   `--many`, `--content` and `--data`
+---   `--many`, `--json`, `--content` and `--data`
 abbrev pub signer_rule : Rule
 signer_rule = record
     (new_rule (codes "signer")) {
@@ -29,10 +29,13 @@ signer_rule = record
       required = true;
     }
 
---- `convert_app`, `check_app`, `cover_app`: the subcommands `convert`, `check` and `cover`; the
----   others have no options
+--- `convert_app`, `changes_app`, `check_app`, `cover_app`: the subcommands `convert`, `changes`,
+---   `check` and `cover`; the others have no options
 abbrev pub convert_app : App
 convert_app = with_rule (new_app (codes "convert")) (flag_rule (codes "many"))
+
+abbrev pub changes_app : App
+changes_app = with_rule (new_app (codes "changes")) (flag_rule (codes "json"))
 
 abbrev pub check_app : App
 check_app = with_rule (with_rule (new_app (codes "check")) (flag_rule (codes "content")))
@@ -56,8 +59,8 @@ bare_program_app =
 abbrev pub program_app : App
 program_app = record {
   top = record bare_program_app.top { is_leaf = false };
-  subs = convert_app.top ∷ new_shape (codes "show") ∷ check_app.top ∷ cover_app.top ∷ new_shape
-      (codes "same") ∷ [];
+  subs = convert_app.top ∷ new_shape (codes "show") ∷ changes_app.top ∷ check_app.top
+      ∷ cover_app.top ∷ new_shape (codes "same") ∷ [];
 }
 
 --- `IsNumber digits n`: `digits` are decimal digits of the number `n`, which `u64` holds
@@ -87,6 +90,10 @@ convert_words p many = p ∷ codes "convert" ∷ (if many then codes "--many" �
 abbrev pub plain_words : List ℕ → List ℕ → List (List ℕ)
 plain_words p name = p ∷ name ∷ []
 
+--- `changes_words p json`: the words of `changes`, with `--json` or without
+abbrev pub changes_words : List ℕ → Bool → List (List ℕ)
+changes_words p json = p ∷ codes "changes" ∷ (if json then codes "--json" ∷ [] else [])
+
 --- `check_words p after`: the words of `check`, by what follows the message
 abbrev pub check_words : List ℕ → After → List (List ℕ)
 check_words p Nothing = p ∷ codes "check" ∷ []
@@ -102,6 +109,7 @@ cover_words p digits content =
 abbrev pub AskFor : List (List ℕ) → Task → Type 0
 AskFor words (Convert many) = (p : List ℕ) × (words ≡ convert_words p many)
 AskFor words Show = (p : List ℕ) × (words ≡ plain_words p (codes "show"))
+AskFor words (Changes json) = (p : List ℕ) × (words ≡ changes_words p json)
 AskFor words (Check after) = (p : List ℕ) × (words ≡ check_words p after)
 AskFor words (Cover signer content) =
     (p : List ℕ) × (digits : List ℕ) × (words ≡ cover_words p digits content)

@@ -4,6 +4,7 @@
 #![tactic(auto)]
 
 mod answer;
+mod changes;
 mod check;
 mod compare;
 mod program;

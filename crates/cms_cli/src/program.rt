@@ -6,6 +6,7 @@ ghost use Rattle.cms_cli.specs.CommandLine.{AskFor};
 ghost use Rattle.cms_cli.specs.Statuses.{cover_status, fault_status, many_status, result_status};
 
 use crate::answer::Answer;
+use crate::changes::changes;
 use crate::check::check;
 use crate::compare::compare;
 use crate::show::show;
@@ -72,6 +73,10 @@ fn perform<I: Input, O: Output, E: Output>(
         }
         Task::Show => {
             let (input, answer) = show(alloc, input, LIMIT);
+            (input, report_answer(answer, output, errors))
+        }
+        Task::Changes { json } => {
+            let (input, answer) = changes(alloc, input, LIMIT, json);
             (input, report_answer(answer, output, errors))
         }
         Task::Check { after } => {

@@ -7,7 +7,7 @@
 ghost use Rattle.std.specs.Prelude.{◌≡◌, ◌⊎◌, ℕ, List, [], ◌∷◌, Bool, Some, IfOk, Ok, Err, codes, map, false};
 ghost use Rattle.clap.specs.Words.{app_of, found_of, kind_of, new_app, one_text, rule_of};
 ghost use Rattle.clap.specs.declared.builder.command.Command.TheViews.{out-Command};
-ghost use Rattle.cms_cli.specs.CommandLine.{program_app, bare_program_app, convert_app, check_app, cover_app, signer_rule, flag_rule, IsNumber, flag_text, checked, AskFor, AskForBoth};
+ghost use Rattle.cms_cli.specs.CommandLine.{program_app, bare_program_app, convert_app, changes_app, check_app, cover_app, signer_rule, flag_rule, IsNumber, flag_text, checked, AskFor, AskForBoth};
 
 use crate::texts::{self, Help};
 use clap::error::ErrorKind;
@@ -25,6 +25,11 @@ pub enum Task {
     },
     /// List what is in the message.
     Show,
+    /// List what conversion changes in the message.
+    Changes {
+        /// Whether as JSON.
+        json: bool,
+    },
     /// Say which rules of the standards the message breaks.
     Check {
         /// What follows the message.
@@ -104,6 +109,13 @@ fn convert_command<'a>(alloc: Global) -> Result<Command<'a>, AllocError>
     plain_command(alloc, "convert", texts::CONVERT).arg(flag(alloc, "many", texts::MANY))
 }
 
+fn changes_command<'a>(alloc: Global) -> Result<Command<'a>, AllocError>
+    ensures app { IfOk result (λ c. app_of c ≡ changes_app) }
+    ensures local { IfOk result (λ c. (out-Command c).has_globals ≡ false) }
+{
+    plain_command(alloc, "changes", texts::CHANGES).arg(flag(alloc, "json", texts::JSON))
+}
+
 fn check_command<'a>(alloc: Global) -> Result<Command<'a>, AllocError>
     ensures app { IfOk result (λ c. app_of c ≡ check_app) }
     ensures local { IfOk result (λ c. (out-Command c).has_globals ≡ false) }
@@ -129,7 +141,7 @@ fn bare_command<'a>(alloc: Global) -> Command<'a>
         .override_usage(texts::USAGE)
         .about(texts::ABOUT)
         .after_help(texts::MORE)
-        .version("0.25.0")
+        .version("0.26.0")
         .subcommand_required(true)
 }
 
@@ -139,6 +151,7 @@ fn command<'a>(alloc: Global) -> Result<Command<'a>, AllocError>
     bare_command(alloc)
         .subcommand(convert_command(alloc)?)?
         .subcommand(plain_command(alloc, "show", texts::SHOW))?
+        .subcommand(changes_command(alloc)?)?
         .subcommand(check_command(alloc)?)?
         .subcommand(cover_command(alloc)?)?
         .subcommand(plain_command(alloc, "same", texts::SAME))
@@ -163,6 +176,9 @@ fn task_named(name: &str, matches: &ArgMatches<'_>) -> Result<Task, NoTask>
         → one_text (found_of matches.now) (codes "many") ≡ Some (flag_text many)
         → result ≡ Ok (Task.Convert many) }
     ensures show { name.now ≡ codes "show" → result ≡ Ok Task.Show }
+    ensures changes { name.now ≡ codes "changes" → (json : Bool)
+        → one_text (found_of matches.now) (codes "json") ≡ Some (flag_text json)
+        → result ≡ Ok (Task.Changes json) }
     ensures check { name.now ≡ codes "check" → (with_content with_data : Bool)
         → one_text (found_of matches.now) (codes "content") ≡ Some (flag_text with_content)
         → one_text (found_of matches.now) (codes "data") ≡ Some (flag_text with_data)
@@ -178,6 +194,9 @@ fn task_named(name: &str, matches: &ArgMatches<'_>) -> Result<Task, NoTask>
             many: matches.get_flag("many"),
         }),
         "show" => Ok(Task::Show),
+        "changes" => Ok(Task::Changes {
+            json: matches.get_flag("json"),
+        }),
         "check" => check_of(matches),
         "cover" => cover_of(matches),
         "same" => Ok(Task::Same),

@@ -13,9 +13,9 @@ pub(crate) struct Help {
 pub(crate) const USAGE: &str = "cms-canon <COMMAND>";
 
 pub(crate) const ABOUT: &str = "\
-Reads one message from the standard input and writes it in DER, lists it, says
-which rules it breaks, writes what one of its signatures covers, or compares it
-with a second message. A message is a CMS signed message (RFC 5652), or a
+Reads one message from the standard input and writes it in DER, lists it, lists
+what its DER changes, says which rules it breaks, writes what one of its
+signatures covers, or compares it with a second message. A message is a CMS signed message (RFC 5652), or a
 request or a response of time-stamping (RFC 3161), in BER or in DER. With
 --many, `convert` converts any number of messages.
 
@@ -29,6 +29,7 @@ Examples:
   cms-canon convert < message.ber > message.der
   cat folder/*.p7s | cms-canon convert --many > all.der
   cms-canon show < message.der
+  cms-canon changes < message.ber
   cms-canon check < message.der
   cms-canon cover --signer 0 < message.der > covered
   cat first.der second.der | cms-canon same
@@ -40,6 +41,8 @@ of all commands, and `cms-canon help COMMAND` explains each command.";
 pub(crate) const SIGNER: &str = "The number of the signer, in the order read, from 0";
 
 pub(crate) const MANY: &str = "Read messages to the end of the input, and write the DER of each";
+
+pub(crate) const JSON: &str = "Write one JSON object in place of lines";
 
 pub(crate) const CONTENT: &str = "Take what follows the message as its content";
 
@@ -223,6 +226,48 @@ with `kind: response`. The listing of its token follows `token: present`.
 Examples:
   cms-canon show < message.der
   cms-canon show < response.tsr | grep tst-time
+
+The refusals and the exit statuses are those of `cms-canon convert`.",
+};
+
+pub(crate) const CHANGES: Help = Help {
+    usage: "cms-canon changes [--json] < MESSAGE",
+    about: "List what conversion changes in the message",
+    more: "\
+The input is one message, as for `cms-canon convert`. A line is written for
+each change from the message to its DER, in the order of the message, and a
+last one that counts them; or the line `no change`, if the message is its own
+DER.
+
+Places are in octets of the message, from 0. Octets are in hexadecimal: those
+of the message, and after -> those of the DER. A header is an identifier and a
+length; what is after it is shown of a BOOLEAN and of named bits alone.
+
+  at 0 length made definite: 30 80 -> 30 23
+      The length is indefinite in the message, which DER does not allow.
+  at 5 length in fewest octets: 30 84 00 00 00 25 -> 30 23
+      The length has more octets than it needs.
+  at 5 length of what is inside: 30 25 -> 30 23
+      The length is another one, since what is inside is changed.
+  at 13 segments joined: 4 segments, 1024 octets
+      A string is in segments in the message, and in one piece in DER.
+  at 92 moved from member 3 to member 0 of digestAlgorithms
+      DER has the members of a set in ascending order. Numbers are from 0.
+  at 120 BOOLEAN 01 -> ff
+      TRUE is ff in DER.
+  at 133 default omitted: 01 01 00
+      A field that has its default value is left out.
+  at 40 trailing zero bits removed: 03 02 00 80 -> 03 02 07 80
+      Bits that have names end with the last one that is set.
+  at 40 unused bits set to zero: 03 02 07 ff -> 03 02 07 80
+      Bits after the last one are zero in DER.
+  107 octets in, 81 out, 70 of them from the input, 9 changes
+
+With --json, all of this is one object, whose members docs/FORMATS.md explains.
+
+Examples:
+  cms-canon changes < message.ber
+  cms-canon changes --json < message.ber
 
 The refusals and the exit statuses are those of `cms-canon convert`.",
 };

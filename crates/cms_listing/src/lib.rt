@@ -2,6 +2,7 @@
 //! a `String`. docs/FORMATS.md says how these texts are written.
 #![tactic(auto)]
 
+mod changes;
 mod findings;
 mod lines;
 mod request;
@@ -11,6 +12,7 @@ mod signer;
 mod tst_info;
 mod values;
 
+pub use changes::{Change, ChangeKind, SetName, find_changes, list_changes, list_changes_as_json};
 pub use findings::list_findings;
 pub use request::list_request;
 pub use response::list_response;

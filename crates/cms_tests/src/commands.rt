@@ -24,6 +24,14 @@ const WORDS: &[(&[&str], Reply)] = &[
     ),
     (&["cms-canon", "show"], Reply::Task(Task::Show)),
     (
+        &["cms-canon", "changes"],
+        Reply::Task(Task::Changes { json: false }),
+    ),
+    (
+        &["cms-canon", "changes", "--json"],
+        Reply::Task(Task::Changes { json: true }),
+    ),
+    (
         &["cms-canon", "check"],
         Reply::Task(Task::Check {
             after: After::Nothing,
@@ -67,6 +75,7 @@ const WORDS: &[(&[&str], Reply)] = &[
     (&["cms-canon", "convert", "--many=2"], Reply::Usage),
     (&["cms-canon", "show", "--many"], Reply::Usage),
     (&["cms-canon", "show", "message"], Reply::Usage),
+    (&["cms-canon", "changes", "--json", "--json"], Reply::Usage),
     (&["cms-canon", "check", "--content", "--data"], Reply::Usage),
     (&["cms-canon", "check", "--data", "--content"], Reply::Usage),
     (

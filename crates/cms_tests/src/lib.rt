@@ -10,6 +10,8 @@ mod asserts;
 #[cfg(test)]
 mod cert_ids;
 #[cfg(test)]
+mod changes;
+#[cfg(test)]
 mod checks;
 #[cfg(test)]
 mod commands;

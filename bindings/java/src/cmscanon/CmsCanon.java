@@ -6,12 +6,15 @@ import java.io.IOException;
 import java.io.InputStream;
 import java.math.BigInteger;
 import java.nio.charset.StandardCharsets;
+import java.nio.file.Files;
+import java.nio.file.Path;
 import java.util.AbstractList;
 import java.util.ArrayList;
 import java.util.Arrays;
 import java.util.List;
 import java.util.Objects;
 import java.util.OptionalLong;
+import java.util.stream.IntStream;
 
 /**
  * The one DER encoding of a CMS signed message (RFC 5652), or of a request or a response of time-stamping (RFC 3161), and what is
@@ -168,20 +171,6 @@ public final class CmsCanon {
         Verdict verify(Job job);
     }
 
-    /** An algorithm with its parameters, as a {@link Job} has it: {@link cmscanon.AlgorithmIdentifier} with an array. */
-    public static final class AlgorithmIdentifier {
-        /** The OBJECT IDENTIFIER, as {@link cmscanon.AlgorithmIdentifier#oid}. */
-        public final String oid;
-
-        /** The parameters, one element; null if they are absent. NULL is not absent: it is {@code 05 00}. */
-        public final byte[] parameters;
-
-        AlgorithmIdentifier(cmscanon.AlgorithmIdentifier received) {
-            this.oid = received.oid();
-            this.parameters = orNull(received.parameters());
-        }
-    }
-
     /**
      * What a verifier is asked: whether a signature is right for the octets that it covers (RFC 5652, section 5.6).
      *
@@ -220,12 +209,12 @@ public final class CmsCanon {
 
         /** {@return signatureAlgorithm} */
         public AlgorithmIdentifier signatureAlgorithm() {
-            return new AlgorithmIdentifier(info.signatureAlgorithm());
+            return info.signatureAlgorithm();
         }
 
         /** {@return digestAlgorithm: the algorithm that the content and the signed attributes are digested with} */
         public AlgorithmIdentifier digestAlgorithm() {
-            return new AlgorithmIdentifier(info.digestAlgorithm());
+            return info.digestAlgorithm();
         }
 
         /**
@@ -264,6 +253,30 @@ public final class CmsCanon {
      */
     public static byte[] convert(byte[] data) throws Refused {
         return convert(data, LIMIT);
+    }
+
+    /**
+     * {@return the DER of the one message that a stream gives} It is read to its end, or to the octet after {@link #LIMIT}, and not closed.
+     *
+     * @param data gives the octets of the message
+     * @throws IOException if it throws that
+     * @throws Refused if it is no such message
+     */
+    public static byte[] convert(InputStream data) throws IOException, Refused {
+        return convert(octetsOf(data));
+    }
+
+    /**
+     * {@return the DER of the one message in a file}
+     *
+     * @param file the file with the message
+     * @throws IOException if it cannot be read
+     * @throws Refused if it is no such message
+     */
+    public static byte[] convert(Path file) throws IOException, Refused {
+        try (InputStream data = Files.newInputStream(file)) {
+            return convert(data);
+        }
     }
 
     /**
@@ -323,6 +336,30 @@ public final class CmsCanon {
     }
 
     /**
+     * {@return the listing of the one message that a stream gives} It is read to its end, or to the octet after {@link #LIMIT}, and not closed.
+     *
+     * @param data gives the octets of the message
+     * @throws IOException if it throws that
+     * @throws Refused if it is no such message
+     */
+    public static String show(InputStream data) throws IOException, Refused {
+        return show(octetsOf(data));
+    }
+
+    /**
+     * {@return the listing of the one message in a file}
+     *
+     * @param file the file with the message
+     * @throws IOException if it cannot be read
+     * @throws Refused if it is no such message
+     */
+    public static String show(Path file) throws IOException, Refused {
+        try (InputStream data = Files.newInputStream(file)) {
+            return show(data);
+        }
+    }
+
+    /**
      * {@return the listing of the one message in {@code data}, as the command {@code show} writes it: a line for each of its
      * parts}
      *
@@ -334,6 +371,48 @@ public final class CmsCanon {
         checkLimit(limit);
         byte[] text = Library.octets(LISTING, (output, outcome) ->
                 Library.cms_canon_show(data, data.length, limit, output, output.length, outcome));
+        return new String(text, StandardCharsets.UTF_8);
+    }
+
+    /**
+     * {@return what {@code convert} changes in a message, in its order; empty if it is its own DER}
+     *
+     * @param data the octets of the message
+     * @throws Refused if it is no such message
+     */
+    public static List<Change> changes(byte[] data) throws Refused {
+        return changes(data, LIMIT);
+    }
+
+    /**
+     * {@return what {@code convert} changes in the one message in {@code data}, in its order; empty if it is its own DER}
+     *
+     * @param data the octets of the message
+     * @param limit how many octets the message and its DER may have
+     * @throws Refused if it is no such message
+     */
+    public static List<Change> changes(byte[] data, long limit) throws Refused {
+        checkLimit(limit);
+        byte[] own = data.clone();
+        long[] words = Library.records(Change.WORDS, firstRecords(own), (changes, room, outcome) ->
+                Library.cms_canon_changes(own, own.length, limit, changes, room, outcome));
+        String[] lines = words.length == 0 ? new String[0] : listChanges(own, false, limit).split("\n");
+        return IntStream.range(0, words.length / Change.WORDS).mapToObj(it -> Change.in(words, it * Change.WORDS, lines[it])).toList();
+    }
+
+    /**
+     * {@return what {@code convert} changes in the one message in {@code data}, as the command {@code changes} writes it: a line for each
+     * change, and one that counts them and the octets; or one object of JSON}
+     *
+     * @param data the octets of the message
+     * @param json whether it is JSON
+     * @param limit how many octets the message and its DER may have
+     * @throws Refused if it is no such message
+     */
+    public static String listChanges(byte[] data, boolean json, long limit) throws Refused {
+        checkLimit(limit);
+        byte[] text = Library.octets(LISTING, (output, outcome) ->
+                Library.cms_canon_list_changes(data, data.length, (byte) (json ? 1 : 0), limit, output, output.length, outcome));
         return new String(text, StandardCharsets.UTF_8);
     }
 
@@ -375,6 +454,30 @@ public final class CmsCanon {
      */
     public static List<Finding> check(byte[] data) throws Refused {
         return check(data, null, null, null, LIMIT);
+    }
+
+    /**
+     * {@return the rules that the one message that a stream gives breaks, without content or a verifier} It is read to its end, or to the octet after {@link #LIMIT}, and not closed.
+     *
+     * @param data gives the octets of the message
+     * @throws IOException if it throws that
+     * @throws Refused if it is no such message
+     */
+    public static List<Finding> check(InputStream data) throws IOException, Refused {
+        return check(octetsOf(data));
+    }
+
+    /**
+     * {@return the rules that the one message in a file breaks, without content or a verifier}
+     *
+     * @param file the file with the message
+     * @throws IOException if it cannot be read
+     * @throws Refused if it is no such message
+     */
+    public static List<Finding> check(Path file) throws IOException, Refused {
+        try (InputStream data = Files.newInputStream(file)) {
+            return check(data);
+        }
     }
 
     /**
@@ -524,6 +627,30 @@ public final class CmsCanon {
     }
 
     /**
+     * {@return all fields of the one message that a stream gives} It is read to its end, or to the octet after {@link #LIMIT}, and not closed.
+     *
+     * @param data gives the octets of the message
+     * @throws IOException if it throws that
+     * @throws Refused if it is no such message
+     */
+    public static Message read(InputStream data) throws IOException, Refused {
+        return read(octetsOf(data));
+    }
+
+    /**
+     * {@return all fields of the one message in a file}
+     *
+     * @param file the file with the message
+     * @throws IOException if it cannot be read
+     * @throws Refused if it is no such message
+     */
+    public static Message read(Path file) throws IOException, Refused {
+        try (InputStream data = Files.newInputStream(file)) {
+            return read(data);
+        }
+    }
+
+    /**
      * {@return all fields of the one message in {@code data}} The library is called once, or twice if there are more than 65,536
      * fields.
      *
@@ -633,6 +760,11 @@ public final class CmsCanon {
 
     private static byte[] orEmpty(byte[] octets) {
         return octets == null ? new byte[0] : octets;
+    }
+
+    /** The octets that a stream gives, or one more than the limit, by which they are refused. */
+    private static byte[] octetsOf(InputStream data) throws IOException {
+        return data.readNBytes((int) LIMIT + 1);
     }
 
     private static byte[] orNull(Octets octets) {

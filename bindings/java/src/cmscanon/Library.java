@@ -88,6 +88,12 @@ final class Library {
 
     static native void cms_canon_pieces(
             byte[] input, long inputLength, long limit, long[] pieces, long piecesRoom, long[] outcome);
+
+    static native void cms_canon_changes(
+            byte[] input, long inputLength, long limit, long[] changes, long changesRoom, long[] outcome);
+
+    static native void cms_canon_list_changes(
+            byte[] input, long inputLength, byte json, long limit, byte[] output, long outputRoom, long[] outcome);
     // The end of the calls.
 
     /** Calls with room for so many octets, and once more if they are too few. */

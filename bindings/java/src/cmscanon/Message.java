@@ -68,6 +68,20 @@ public record Message(MessageKind kind, SignedData signedData, TimeStampReq requ
     // The end of what is in a SignedData.
 
     /**
+     * {@return the certificate in the message that a signer of it names, by issuer and serial number or by the key identifier (RFC 5652,
+     * section 5.3), one element; null if there is none that can be read, or several that differ}
+     *
+     * <p>Anybody can put a certificate into a message: whether it is to be trusted is for the caller to judge.
+     *
+     * @param signer a signer of the message
+     */
+    public Octets certificateOf(SignerInfo signer) {
+        List<Octets> all = certificates() == null ? List.of() : certificates();
+        List<Octets> named = all.stream().filter(it -> Certificate.isNamed(it.toArray(), signer)).distinct().toList();
+        return named.size() == 1 ? named.get(0) : null;
+    }
+
+    /**
      * {@return {@link SignedData#tstInfo}}
      *
      * @throws CmsCanon.Refused with the reason 105, if the content is no TSTInfo in DER

@@ -60,6 +60,46 @@ public record SignerInfo(
 
     // What follows is written by hand.
     private static final byte SET_OF = 0x31;
+    private static final int OCTET_STRING = 0x04;
+
+    /**
+     * {@return the signed attribute of this name, or of this OBJECT IDENTIFIER; null if there is none, or more than one}
+     *
+     * @param name as {@code messageDigest}, or as {@code 1.2.840.113549.1.9.4}
+     */
+    public Attribute signedAttribute(String name) {
+        String oid = Names.OF.getOrDefault(name, name);
+        List<Attribute> found = signedAttributes.stream().filter(it -> it.oid().equals(oid)).toList();
+        return found.size() == 1 ? found.get(0) : null;
+    }
+
+    /**
+     * {@return the octets of the attribute message-digest (RFC 5652, section 11.2); null if there is none, or none that has one value
+     * which is an OCTET STRING} Whether it is the digest of the content, {@link CmsCanon#check(byte[])} says.
+     */
+    public Octets messageDigest() {
+        Element value = signedValue("messageDigest");
+        return value != null && value.identifier() == OCTET_STRING ? Octets.copyOf(value.contents()) : null;
+    }
+
+    /**
+     * {@return when the signer says that it signed (RFC 5652, section 11.3); null if it does not say so, or not as it should} Nobody
+     * vouches for it.
+     */
+    public java.time.Instant signingTime() {
+        Element value = signedValue("signingTime");
+        return value == null ? null : SigningTime.in(value);
+    }
+
+    /** The one value of the one signed attribute of this name; null if there is none. */
+    private Element signedValue(String name) {
+        Attribute attribute = signedAttribute(name);
+        try {
+            return attribute == null || attribute.values().size() != 1 ? null : Element.only(attribute.values().get(0).toArray());
+        } catch (Element.NoElement none) {
+            return null;
+        }
+    }
 
     /** {@return the countersignatures of the signer, of all its countersignature attributes, in the order read} */
     public List<SignerInfo> countersignatures() {

@@ -1,14 +1,23 @@
 package cmscanon;
 
+import static org.junit.jupiter.api.Assertions.assertArrayEquals;
 import static org.junit.jupiter.api.Assertions.assertEquals;
 import static org.junit.jupiter.api.Assertions.assertSame;
 import static org.junit.jupiter.api.Assertions.assertThrows;
 
+import java.io.ByteArrayInputStream;
+import java.io.IOException;
+import java.io.InputStream;
+import java.io.SequenceInputStream;
+import java.nio.file.Files;
+import java.nio.file.NoSuchFileException;
+import java.nio.file.Path;
 import java.util.HexFormat;
 import java.util.List;
 import java.util.OptionalLong;
 import java.util.stream.Collectors;
 import org.junit.jupiter.api.Test;
+import org.junit.jupiter.api.io.TempDir;
 import org.junit.jupiter.params.ParameterizedTest;
 import org.junit.jupiter.params.provider.CsvSource;
 import org.junit.jupiter.params.provider.ValueSource;
@@ -46,6 +55,26 @@ final class CallsTest {
         assertEquals("F18:0", verdicts(job -> job.signer == 1 ? CmsCanon.Verdict.GOOD : CmsCanon.Verdict.UNKNOWN), "good");
         assertEquals("F18:0 F17:1", verdicts(job -> job.signer == 1 ? CmsCanon.Verdict.BAD : CmsCanon.Verdict.UNKNOWN), "bad");
         assertEquals("F18:0 F18:1", verdicts(job -> null), "null");
+    }
+
+    @Test
+    void streamsAndFiles(@TempDir Path folder) throws CmsCanon.Refused, IOException {
+        Path file = Files.write(folder.resolve("message"), TWO_SIGNERS);
+        assertArrayEquals(CmsCanon.convert(TWO_SIGNERS), CmsCanon.convert(file));
+        assertArrayEquals(CmsCanon.convert(TWO_SIGNERS), CmsCanon.convert(new ByteArrayInputStream(TWO_SIGNERS)));
+        assertEquals(CmsCanon.show(TWO_SIGNERS), CmsCanon.show(file));
+        assertEquals(CmsCanon.show(TWO_SIGNERS), CmsCanon.show(new ByteArrayInputStream(TWO_SIGNERS)));
+        assertEquals(CmsCanon.check(TWO_SIGNERS).toString(), CmsCanon.check(file).toString());
+        assertEquals(CmsCanon.read(TWO_SIGNERS), CmsCanon.read(new ByteArrayInputStream(TWO_SIGNERS)));
+        assertThrows(NoSuchFileException.class, () -> CmsCanon.convert(folder.resolve("none")));
+        assertThrows(CmsCanon.Refused.class, () -> CmsCanon.read(new ByteArrayInputStream(new byte[] {0x30})));
+        InputStream failing = new SequenceInputStream(new ByteArrayInputStream(TWO_SIGNERS), new InputStream() {
+            @Override
+            public int read() throws IOException {
+                throw new IOException("of the stream");
+            }
+        });
+        assertThrows(IOException.class, () -> CmsCanon.convert(failing));
     }
 
     @Test

@@ -47,6 +47,25 @@ final class MessagesTest {
     }
 
     @Test
+    void changes() throws CmsCanon.Refused {
+        byte[] data = countersigned();
+        byte[] der = CmsCanon.convert(data);
+        List<Change> changes = CmsCanon.changes(data);
+        String text = CmsCanon.listChanges(data, false, CmsCanon.LIMIT);
+        assertEquals(Arrays.asList(text.split("\n")).subList(0, changes.size()), changes.stream().map(Change::toString).toList());
+        assertTrue(text.endsWith(", " + changes.size() + " changes\n"), text);
+        assertTrue(changes.stream().anyMatch(it -> it.kind().equals("segments joined") && it.set() == null));
+        for (Change it : changes) {
+            assertTrue(it.place() + it.length() <= data.length && it.derPlace() + it.derLength() <= der.length, it.text());
+        }
+        assertTrue(CmsCanon.listChanges(data, true, CmsCanon.LIMIT).startsWith("{\"changes\": [{\"change\": \""));
+        assertEquals(List.of(), CmsCanon.changes(der));
+        assertEquals("no change\n", CmsCanon.listChanges(der, false, CmsCanon.LIMIT));
+        byte[] unsorted = message(DATA, element("31"));
+        assertThrows(CmsCanon.Refused.class, () -> CmsCanon.changes(Arrays.copyOf(unsorted, unsorted.length - 1)));
+    }
+
+    @Test
     void covers() throws CmsCanon.Refused {
         byte[] data = countersigned();
         SignerInfo signer = CmsCanon.read(data).signers().get(0);
@@ -110,7 +129,7 @@ final class MessagesTest {
     void nulls() throws CmsCanon.Refused {
         Message message = CmsCanon.read(attached());
         SignerInfo signer = message.signers().get(0);
-        assertThrows(NullPointerException.class, () -> CmsCanon.read(null), "no message");
+        assertThrows(NullPointerException.class, () -> CmsCanon.read((byte[]) null), "no message");
         assertThrows(NullPointerException.class, () -> CmsCanon.tstInfo(null), "no content of a token");
         assertThrows(NullPointerException.class, () -> Octets.copyOf(null), "no octets");
         assertThrows(NullPointerException.class, () -> new Attribute(null, List.of(), List.of()), "no type");

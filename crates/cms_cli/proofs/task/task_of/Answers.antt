@@ -1,7 +1,7 @@
 use Rattle.std.proofs.Common.{◌≡◌, ◌∙◌, refl, Bool, true, false, map, inl, inr, Ok, Err, ap, ap₂, option_map}
 use Rattle.cms_cli.specs.declared.task.After.TheVariants.{Nothing, Content, Data}
 use Rattle.cms_cli.specs.declared.task.Task.{Task}
-use Rattle.cms_cli.specs.declared.task.Task.TheVariants.{Convert, Show, Check, Cover, Same}
+use Rattle.cms_cli.specs.declared.task.Task.TheVariants.{Convert, Show, Changes, Check, Cover, Same}
 use Rattle.cms_cli.specs.declared.task.NoTask.TheVariants.{OutOfMemory}
 use Rattle.clap.specs.Words.{found_of, is_simple, subcommand_of, takes}
 use Rattle.cms_cli.specs.CommandLine.{AskFor, checked}
@@ -36,6 +36,7 @@ checked_is g c with_content with_data h = let k = kept_is g c _ h in
 task_is : (g : Over) (c : goal.Joined-matches-2 g) (task : Task) → AskFor (map g.S.AsStr.text c.args.words.now) task → c.task_named.result ≡ Ok task
 task_is g c (Convert many) h = let k = kept_is g c _ (gives _ (Convert many) h) in c.task_named.ensures.convert (ap (λ x. x.0) k) many (ap (λ x. x.4) k)
 task_is g c Show h = c.task_named.ensures.show (ap (λ x. x.0) (kept_is g c _ (gives _ Show h)))
+task_is g c (Changes json) h = let k = kept_is g c _ (gives _ (Changes json) h) in c.task_named.ensures.changes (ap (λ x. x.0) k) json (ap (λ x. x.5) k)
 task_is g c (Check Nothing) h = checked_is g c false false (gives _ (Check Nothing) h)
 task_is g c (Check Content) h = checked_is g c true false (gives _ (Check Content) h)
 task_is g c (Check Data) h = checked_is g c false true (gives _ (Check Data) h)
