@@ -189,6 +189,10 @@ class Java(Writer):
         item = field.type if field.type in self.records else self.types[field.type].java[0]
         return f"List<{item}>" if field.is_list else item
 
+    def noted(self, field: Field) -> str:
+        """Returns the annotation of what may be null."""
+        return "@Nullable " if self.is_optional(field) or field.type == "signed" else ""
+
     def parameter(self, field: Field) -> List[str]:
         text = re.sub(r"`([^`]*)`", r"{@code \1}", self.said(field)).removesuffix(".")
         text = text[0].lower() + text[1:] if re.match("[A-Z][a-z ]", text) else text
@@ -216,7 +220,7 @@ class Java(Writer):
     def record(self, record: Record) -> Iterator[str]:
         fields = self.fields(record)
         yield from ("/**", *wrapped(what(record), " * "), " *", *(line for it in fields for line in self.parameter(it)), " */")
-        components = [f"{self.declared(it)} {in_words(it.name)}" for it in fields]
+        components = [f"{self.noted(it)}{self.declared(it)} {in_words(it.name)}" for it in fields]
         line = f"public record {record.name}({', '.join(components)}) {{"
         if len(line) <= WIDTH:
             yield line
@@ -292,6 +296,7 @@ class Java(Writer):
             name, absent = in_words(it.name), "List.of()" if it.is_list and not it.is_optional else "null"
             yield ""
             yield f"    /** {{@return {{@link SignedData#{name}}}}} */"
+            yield from ["    @Nullable"] if absent == "null" else []
             yield f"    public {self.declared(it)} {name}() {{"
             yield f"        return signedData == null ? {absent} : signedData.{name}();"
             yield "    }"

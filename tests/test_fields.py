@@ -7,7 +7,7 @@ requests, responses and tokens. Of each it is checked that
 
 - a message that is refused is refused as `cms_canon_convert` refuses it, and as `read` of the package raises it;
 - the rows are those of the walk, each in its place, and are the same with just enough room; with less room none is written;
-- `cms_canon_cover` and `cms_canon_part` write what the walk finds;
+- `cms_canon_cover` writes what the walk finds;
 - each attribute of the object is what the walk finds, and so is what `to_json` writes;
 - the content of a token is refused as a TSTInfo if `show` says that it is none.
 
@@ -18,24 +18,23 @@ import json
 import sys
 from collections import Counter, namedtuple
 from datetime import datetime
-from random import Random
 
-import countersignatures
 import generated_messages
+import messages_of_tools
 import openssl_tokens
 import pytest
 import real_messages
 from c_library import LIMIT, Library
 from elements import ID_CT_TST_INFO, element as written, message as message_of, oid, token_around
-from generated_messages import SEED, OctetString, Primitive, Sequence, TrueOrAbsent, any_opaque, sometimes
+from generated_messages import OctetString, Primitive, Sequence, TrueOrAbsent, any_opaque, sometimes
 from programs import octets_in_vectors
 from tst_model import tst_info_of
-from walk import KINDS, TST_INFO, countersignatures_of, fields_of, fields_of_tst_info, parts_of
+from walk import KINDS, TST_INFO, countersignatures_of, fields_of, fields_of_tst_info
 
 MESSAGES = 20_000
 SPELLINGS = 10  # of each message made at random, the last one in DER
-MOST_SIGNERS = 10  # of a message whose parts are asked for: each call reads the whole message
-NO_CONTENT, NO_PART, NO_TST_INFO = 103, 104, 105
+MOST_SIGNERS = 10  # of a message whose covers are asked for: each call reads the whole message
+NO_CONTENT, NO_TST_INFO = 103, 105
 EXACT = (1 << 53) - 1  # the largest whole number that to_json writes as one
 
 OPTIONAL = {  # what may be absent, by the row that is there all the same
@@ -102,9 +101,6 @@ def complaints_of_signer(library, octets, path, signer, detached):
         yield differ(f"cover {path}", NO_CONTENT, covered.reason)
     else:
         yield differ(f"cover {path}", (0, signer["covered"]), (covered.status, covered.output))
-    for number, part in parts_of(signer):
-        came = library.part(octets, path, number)
-        yield differ(f"part {number} of {path}", (0, part) if part is not None else (NO_PART, b""), (came.reason, came.output))
     for number, inner in enumerate(countersignatures_of(signer)):
         yield from complaints_of_signer(library, octets, [*path, number], inner, detached)
 
@@ -213,8 +209,6 @@ def complaints_of_message(asker, octets, detached):
     if signed_data is not None:
         for number, signer in enumerate(signed_data["signers"][:MOST_SIGNERS]):
             yield from complaints_of_signer(asker.library, octets, [number], signer, detached)
-        for number, certificate in enumerate((signed_data["certificates"] or [])[:MOST_SIGNERS]):
-            yield differ(f"certificate {number}", certificate, asker.library.part(octets, [number], 9).output)
         if signed_data["content_type"] == TST_INFO and signed_data["content"] is not None:
             is_right = "\ntst: not der\n" not in asker.package.show(octets)
             complaint, tst_info = judge_tst_info(asker, signed_data["content"], is_right)
@@ -253,16 +247,8 @@ def test_tools(asker, tools, tally):
 
 
 def test_countersignatures(asker, tools, tally):
-    if missing := countersignatures.missing_for_java():
-        return tally.skip("BouncyCastle", f"{', '.join(missing)} not installed")
-    countersignatures.make_keys(tools)
-    countersignatures.build_java(tools)
-    random, plans = Random(SEED), [*countersignatures.plans()]
-    made = countersignatures.bouncy_castle(tools, "make", [f"{form} {signers}" for _, form, signers in plans])
-    for (name, form, _), octets in zip(plans, map(bytes.fromhex, made)):
-        detached = countersignatures.CONTENT if form == "detached" else None
-        for given in (octets, *countersignatures.spellings_of(octets, random)):
-            judge(tally, asker, f"{name}, {form}", given, detached)
+    for name, octets, detached in messages_of_tools.of_bouncy_castle(tools, tally):
+        judge(tally, asker, name, octets, detached)
 
 
 def any_time(random):

@@ -141,7 +141,7 @@ fn bare_command<'a>(alloc: Global) -> Command<'a>
         .override_usage(texts::USAGE)
         .about(texts::ABOUT)
         .after_help(texts::MORE)
-        .version("0.26.0")
+        .version("0.27.0")
         .subcommand_required(true)
 }
 
