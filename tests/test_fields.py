@@ -26,7 +26,7 @@ import pytest
 import real_messages
 from c_library import LIMIT, Library
 from elements import ID_CT_TST_INFO, element as written, message as message_of, oid, token_around
-from generated_messages import OctetString, Primitive, Sequence, TrueOrAbsent, any_opaque, sometimes
+from generated_messages import any_token, any_tst_info
 from programs import octets_in_vectors
 from tst_model import tst_info_of
 from walk import KINDS, TST_INFO, countersignatures_of, fields_of, fields_of_tst_info
@@ -249,39 +249,6 @@ def test_tools(asker, tools, tally):
 def test_countersignatures(asker, tools, tally):
     for name, octets, detached in messages_of_tools.of_bouncy_castle(tools, tally):
         judge(tally, asker, name, octets, detached)
-
-
-def any_time(random):
-    """Returns a time in DER, or a text that is nearly one, and whether it is one."""
-    year, month, day = random.choice((0, 1, 1970, random.randrange(10000))), random.randint(1, 13), random.randint(1, 28)
-    second, hour = random.choice((0, 59, 59, 60)), random.randrange(25)
-    fraction = "".join(random.choices("0123456789", k=random.choice((0, 0, 1, 6, 7, 20))))
-    text = f"{year:04}{month:02}{day:02}{hour:02}{random.randrange(60):02}{second:02}{f'.{fraction}' if fraction else ''}Z"
-    return text, month <= 12 and hour <= 23 and second <= 59 and not fraction.endswith("0")
-
-
-def any_tst_info(random):
-    """Returns a TSTInfo in DER, or octets that are nearly one, and whether it is one."""
-    time, is_time = any_time(random)
-    numbers = {0x02: random.choice((0, 1, 1 << 70)), 0x80: random.choice((1, 999, 0, 1000)), 0x81: random.choice((1, 500, 999))}
-    there = {identifier: number for identifier, number in numbers.items() if random.random() < 0.5}
-    parts = [Primitive(it, number.to_bytes(number.bit_length() // 8 + 1, "big")) for it, number in there.items()]
-    accuracy, is_accuracy = (Sequence(*parts), there.get(0x80, 1) in range(1, 1000)) if random.random() < 0.5 else (None, True)
-    imprint = Sequence(generated_messages.algorithm(random), OctetString(generated_messages.octets(random, 64)))
-    integer, policy = generated_messages.integer, generated_messages.identifier_of_an_object(random)
-    fields = [integer(random), policy, imprint, integer(random), Primitive(0x18, time.encode()), accuracy]
-    fields += [TrueOrAbsent(random.random() < 0.5), sometimes(random, lambda: integer(random))]
-    fields += [sometimes(random, lambda: any_opaque(random, it)) for it in (0xA0, 0xA1)]
-    return Sequence(*fields).der(), is_time and is_accuracy
-
-
-def any_token(random):
-    """Returns a token, its detached content or None, and what its signers cover, which is not looked at."""
-    message, _, covers = generated_messages.signed_message(random)
-    encapsulated = message.parts[1].parts[0].parts[2]
-    content, _ = any_tst_info(random)
-    encapsulated.parts = [Primitive(0x06, ID_CT_TST_INFO[2:]), Sequence(OctetString(content), identifier=0xA0)]
-    return message, None, covers
 
 
 def spelled_by_name(part, random):

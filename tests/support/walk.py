@@ -38,6 +38,11 @@ def dotted(contents):
     return ".".join(map(str, [top, arcs[0] - 40 * top, *arcs[1:]]))
 
 
+def contents_of_integer(number):
+    octets = (number if number >= 0 else ~number).bit_length() // 8 + 1
+    return number.to_bytes(octets, "big", signed=True)
+
+
 def time_of(text):
     """Returns a time, or None in the year 0000, which Python does not know."""
     digits, _, fraction = text.rstrip("Z").partition(".")
