@@ -217,11 +217,14 @@ def complaints_of_scripts():
 
 
 def complaints_of_names():
-    """Yields each refusal whose name in texts/ is not that of the program, or is another one in REFUSALS."""
+    """Yields each refusal, and each reason of the library for C, whose name in texts/ is not that of the program, or is another one in REFUSALS."""
     source = (TOP / "crates" / "cms_tlv" / "src" / "fault.rt").read_text()
     names = dict(re.findall(r'Reason::(\w+) => "(\w+)",', source))
     known = {int(number): names[reason] for reason, number in re.findall(r"^    (\w+) = (\d+),$", source, re.M)}
-    yield from differences("docs/texts/refusals.toml", "E", table_in("docs/texts/refusals.toml", r'^number = (\d+)\nname = "(.*)"'), known)
+    yield from differences("docs/texts/refusals.toml", "E", table_in("docs/texts/refusals.toml", r'^\[\[refusal\]\]\nnumber = (\d+)\nname = "(.*)"'), known)
+    outcomes = (TOP / "crates" / "cms_c" / "src" / "outcome.rt").read_text()
+    lacks = {int(number): name for number, name in re.findall(r'refused\((\d+), 0, "([^"]+)"\)', outcomes)}
+    yield from differences("docs/texts/refusals.toml", "", table_in("docs/texts/refusals.toml", r'^\[\[lack\]\]\nnumber = (\d+)\nname = "(.*)"'), lacks)
     some = table_in("docs/REFUSALS.md", r"\bE(\d+) ([A-Z]\w+)")
     yield from differences("docs/REFUSALS.md", "E", some, {it: known.get(it) for it in some})
 
@@ -260,7 +263,7 @@ def complaints_of_nulls():
     member = re.compile(r" */\*\*((?:(?!\*/).)*)\*/\n((?: *@\w+\n)*[^\n]*\bpublic\b[^{;]*)", re.S)
     for file in sorted((TOP / "bindings" / "java" / "src").rglob("*.java")):
         for said, declared in member.findall(file.read_text()):
-            says_null = re.search(r"\bnull\b", said) and "Refuses null" not in said and "{@code null}" not in said
+            says_null = re.search(r"\bnull\b", said) and "Refuses" not in said and "{@code null}" not in said
             if says_null and "@Nullable" not in declared and " class " not in declared and "@interface" not in declared:
                 yield f"{file.relative_to(TOP)}: {' '.join(declared.split())[:80]} may be null, and is not @Nullable"
 

@@ -27,7 +27,7 @@ COMMAND = [sys.executable, "-m", "cms_canon_archive"]
 OWN = {"file": "file || '-' || copies.n", **{it: f"iif({it} IS NULL, NULL, randomblob(32))" for it in ("digest", "sha256")}}
 LISTS = (
     *(("check", "--limit", "20"), ("check", "--limit", "20", "--state", "fits"), ("signers", "--limit", "20"), ("times", "--limit", "20")),
-    *(("duplicates", "--limit", "20"), ("changes", "--limit", "20"), ("refusals", "--limit", "20"), ("files", "--limit", "20")),
+    *(("duplicates", "--limit", "20"), ("changes", "--since", "2100-01-01", "--limit", "20"), ("refusals", "--limit", "20"), ("files", "--limit", "20")),
     *(("algorithms",), ("renewal", "--by", "2030-01-01", "--limit", "20")),
 )
 

@@ -182,20 +182,20 @@ IsComparison first second limit o =
 abbrev pub Yields : {R : Type 0} → List ℕ → ℕ → (MessageValue → R) → R → Type 0
 Yields {R} input limit f r = (v : MessageValue) × IsAccepted input limit v × (f v ≡ r)
 
---- `LacksCover input limit path detached l`: the input is refused, or it is an accepted message
+--- `FailsToCover input limit path detached l`: the input is refused, or it is an accepted message
 ---   with no cover at the path (`cover_at`):
 --- | no SignedData, no such signer, or no content
-abbrev pub LacksCover : List ℕ → ℕ → List ℕ → Option (List ℕ) → Lack → Type 0
-LacksCover input limit path detached (lacks.Fault e) = FailsBy input limit e
-LacksCover input limit path detached lacks.NoSignedData =
+abbrev pub FailsToCover : List ℕ → ℕ → List ℕ → Option (List ℕ) → Lack → Type 0
+FailsToCover input limit path detached (lacks.Fault e) = FailsBy input limit e
+FailsToCover input limit path detached lacks.NoSignedData =
     Yields input limit (λ v. cover_at v path detached) None
-LacksCover input limit path detached lacks.NoSigner =
+FailsToCover input limit path detached lacks.NoSigner =
     Yields input limit (λ v. cover_at v path detached) (Some None)
-LacksCover input limit path detached e =
+FailsToCover input limit path detached e =
     (e ≡ lacks.NoContent)
     × Yields input limit (λ v. cover_at v path detached) (Some (Some None))
 
---- `Lacks r l`: `LacksCover` for a message that is known, at whose path there is `r`
+--- `Lacks r l`: `FailsToCover` for a message that is known, at whose path there is `r`
 abbrev pub Lacks : Option (Option (Option (List ℕ))) → Lack → Type 0
 Lacks r (lacks.Fault faults.OutOfMemory) = Unit {0}
 Lacks r (lacks.Fault e) = ⊥
@@ -215,4 +215,4 @@ IsCoverOfInput input limit path detached octets =
 abbrev pub IsCover : List ℕ → ℕ → List ℕ → Option (List ℕ) → List ℕ → List ℕ → Outcome → Type 0
 IsCover input limit path detached =
     IsHandedOver (IsCoverOfInput input limit path detached)
-    (LacksCover input limit path detached) SaysLack
+    (FailsToCover input limit path detached) SaysLack

@@ -2,7 +2,7 @@
 ghost use Rattle.std.specs.Prelude.{◌≡◌, Some, IfOk, IfErr};
 ghost use Rattle.std.specs.Option.{option_copied};
 ghost use Rattle.cms_canon.specs.Covering.{cover_at};
-ghost use Rattle.cms_c.specs.Calls.{IsCover, Lacks, LacksCover, Yields, limit_of_c, items_passed};
+ghost use Rattle.cms_c.specs.Calls.{IsCover, Lacks, FailsToCover, Yields, limit_of_c, items_passed};
 
 use crate::given::{message_in, passed};
 use crate::outcome::{Lack, Outcome};
@@ -55,7 +55,7 @@ fn covered(
     ensures ok { IfOk result (λ octets. Yields input.now (limit_of_c limit)
         (λ v. cover_at v path.now (option_copied detached.entry))
         (Some (Some (Some octets.items)))) }
-    ensures err { IfErr result (LacksCover input.now (limit_of_c limit) path.now
+    ensures err { IfErr result (FailsToCover input.now (limit_of_c limit) path.now
         (option_copied detached.entry)) }
 {
     match message_in(alloc, input, limit) {
