@@ -22,7 +22,7 @@ from .tools import run
 REVISION = "1"  # of what is packaged, for the same version
 PYTHON = "usr/lib/python3/dist-packages"
 SONAME = "libcms_canon.so.1"
-EXAMPLES_IN_C = ("examples/example.c", "examples/fields.c", "examples/recipes/verify_with_openssl.c", "examples/message.ber")
+EXAMPLES_IN_C = ("examples/check.c", "examples/example.c", "examples/fields.c", "examples/recipes/verify_with_openssl.c", "examples/message.ber")
 README_AND_DOCS = {  # of each package: the folder of the repository, and its documents
     "cms-canon": ("", ["README.md", "docs/*.md"]),
     "cms-canon-archive": ("archive", ["README.md", "docs/*.md"]),
