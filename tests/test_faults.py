@@ -178,7 +178,7 @@ def named_messages():
 def cases_of_commands(program, folder):
     messages = list(named_messages())
     for name, octets in messages:
-        for words in (["convert"], ["show"], ["changes"], ["changes", "--json"], ["check"], ["cover", "--signer", "0"]):
+        for words in (["convert"], ["show"], ["show", "--json"], ["changes"], ["changes", "--json"], ["check"], ["cover", "--signer", "0"]):
             yield Case(f"{' '.join(words)} {name}", [program, *words], octets)
         yield Case(f"check --content {name}", [program, "check", "--content"], octets + b"content")
         yield Case(f"check --data {name}", [program, "check", "--data"], octets + b"data")
