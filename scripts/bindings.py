@@ -1,4 +1,5 @@
-"""What repeats bindings/records.toml: the records of the packages for Python, Rust and Java, and what reads them from rows."""
+"""What repeats bindings/records.toml: the records of the packages for Python, Rust and Java, and what reads them from rows; and a table of the keys of
+the JSON of a message."""
 
 import re
 import textwrap
@@ -13,6 +14,7 @@ TOP = Path(__file__).resolve().parent.parent
 PYTHON = "bindings/python/cms_canon/_fields.py"
 RUST = "bindings/rust/src/records.rs"
 JAVA = "bindings/java/src/cmscanon"
+FORMATS = "docs/FORMATS.md"
 WIDTH = 132
 MARK = "    // What follows is written by hand.\n"  # in a record of Java
 
@@ -189,6 +191,10 @@ class Java(Writer):
         item = field.type if field.type in self.records else self.types[field.type].java[0]
         return f"List<{item}>" if field.is_list else item
 
+    def noted(self, field: Field) -> str:
+        """Returns the annotation of what may be null."""
+        return "@Nullable " if self.is_optional(field) or field.type == "signed" else ""
+
     def parameter(self, field: Field) -> List[str]:
         text = re.sub(r"`([^`]*)`", r"{@code \1}", self.said(field)).removesuffix(".")
         text = text[0].lower() + text[1:] if re.match("[A-Z][a-z ]", text) else text
@@ -216,7 +222,7 @@ class Java(Writer):
     def record(self, record: Record) -> Iterator[str]:
         fields = self.fields(record)
         yield from ("/**", *wrapped(what(record), " * "), " *", *(line for it in fields for line in self.parameter(it)), " */")
-        components = [f"{self.declared(it)} {in_words(it.name)}" for it in fields]
+        components = [f"{self.noted(it)}{self.declared(it)} {in_words(it.name)}" for it in fields]
         line = f"public record {record.name}({', '.join(components)}) {{"
         if len(line) <= WIDTH:
             yield line
@@ -292,9 +298,38 @@ class Java(Writer):
             name, absent = in_words(it.name), "List.of()" if it.is_list and not it.is_optional else "null"
             yield ""
             yield f"    /** {{@return {{@link SignedData#{name}}}}} */"
+            yield from ["    @Nullable"] if absent == "null" else []
             yield f"    public {self.declared(it)} {name}() {{"
             yield f"        return signedData == null ? {absent} : signedData.{name}();"
             yield "    }"
+
+
+# ---- JSON
+
+JSON_OF_TYPES = {
+    "integer": "a number", "thousandths": "a number", "identifier": "an OBJECT IDENTIFIER", "element": "an element", "long_element": "an element",
+    "string": "octets", "long_string": "octets", "flag": "`true` or `false`", "text": "text", "bits": "a list of numbers", "time": "a time, or `null`",
+}
+TST_INFO = "TstInfo, or `null`"  # which a SignedData has last, and which is no row of it
+
+
+class Json(Writer):
+    """The object of JSON of a message, which has the fields of Python."""
+
+    language = "python"
+
+    def value(self, field: Field) -> str:
+        item = field.type if field.type in self.records else JSON_OF_TYPES[field.type]
+        whole = f"a list of {field.type if field.type in self.records else f'{item}s'.split(maxsplit=1)[1]}" if field.is_list else item
+        return f"{whole}, or `null`" if field.is_optional else whole
+
+    def table(self) -> Iterator[str]:
+        yield "| object | key | value |"
+        yield "|---|---|---|"
+        for record in self.records.values():
+            rows = [(it.name, self.value(it)) for it in self.fields(record)]
+            for number, (key, value) in enumerate([*rows, *([("tst_info", TST_INFO)] if record.name == "SignedData" else [])]):
+                yield f"| {'' if number else record.name} | `{key}` | {value} |"
 
 
 # ---- files
@@ -304,8 +339,13 @@ def region(file: str, begin: str, end: str, lines: Iterator[str]) -> Region:
     return Region(file, f"{begin}: scripts/generate writes this from {SCHEMA}.", end, lambda: [*lines, ""])
 
 
-def regions(python: Python, java: Java) -> Iterator[Region]:
+def in_formats(lines: Iterator[str]) -> Region:
+    return Region(FORMATS, f"<!-- keys: scripts/generate writes this from {SCHEMA} -->", "<!-- the end of keys -->", lambda: ["", *lines, ""])
+
+
+def regions(python: Python, java: Java, json: Json) -> Iterator[Region]:
     """Yields the parts of files of which others are written by hand."""
+    yield in_formats(json.table())
     for it in python.records.values():
         yield region(PYTHON, f"# {it.name}", f"    # The end of {it.name}.", python.record(it))
     yield region(PYTHON, "    # What is in a SignedData", "    # The end of what is in a SignedData.", python.of_message())
@@ -315,12 +355,12 @@ def regions(python: Python, java: Java) -> Iterator[Region]:
 def files() -> Dict[str, str]:
     """Returns the texts of the files, by their names. Raises `SystemExit` if the schema is wrong, or if a mark is missing."""
     known = schema()
-    python, java = Python(known), Java(known)
+    python, java, json = Python(known), Java(known), Json(known)
     found = {RUST: "\n".join([*Rust(known).file(), ""]), f"{JAVA}/RecordReader.java": "\n".join([*java.readers(), ""])}
     for record in known.records.values():
         name = f"{JAVA}/{record.name}.java"
         text = (TOP / name).read_text(encoding="utf-8") if (TOP / name).exists() else ""
         found[name] = java.file(record, text.partition(MARK)[2])
-    for it in regions(python, java):
+    for it in regions(python, java, json):
         found[it.file] = filled(found.get(it.file) or (TOP / it.file).read_text(encoding="utf-8"), it)
     return found

@@ -1,5 +1,5 @@
-"""What repeats the calls of bindings/c/cms_canon.h: as Python, Java and Rust declare them, as Debian names them, and as docs/USING.md lists them. A call that
-is deprecated there is not declared for them, and not listed."""
+"""What repeats the calls of bindings/c/cms_canon.h: as Python, Java and Rust declare them, as Debian names them, and as docs/USING.md lists them; and the
+release, as the header and the library have it. The call that returns it is not declared for the other languages, which have it from their packages."""
 
 import re
 import sys
@@ -7,16 +7,19 @@ import textwrap
 from pathlib import Path
 from typing import Dict, Iterator, List, NamedTuple, Tuple
 
+from texts import Region, filled
+
 TOP = Path(__file__).resolve().parent.parent
 HEADER = "bindings/c/cms_canon.h"
 PYTHON = "bindings/python/cms_canon/_prototypes.py"
 JAVA = "bindings/java/src/cmscanon/Library.java"
 RUST = "bindings/rust/src/ffi.rs"
-SYMBOLS = "packaging/debian/libcms-canon0.symbols"
+SYMBOLS = "packaging/debian/libcms-canon1.symbols"
 USING = "docs/USING.md"
 VERSION = "crates/cms_cli/src/task.rt"
+NUMBER = "crates/cms_c/src/version.rt"
 
-CALL = re.compile(r"^(CMS_CANON_DEPRECATED\n)?void (cms_canon_\w+)\(([^()]*)\);", re.M)
+CALL = re.compile(r"^(void|uint32_t) (cms_canon_\w+)\(([^()]*)\);", re.M)
 MARKED = re.compile(r"( *)// The calls of the header: scripts/generate writes these\.\n.*?// The end of the calls\.\n", re.S)
 WIDTH = 128
 
@@ -41,27 +44,61 @@ JAVA_AND_RUST = {  # each type of the header, as it is declared there
 
 
 class Call(NamedTuple):
-    """A call: its name, and the type and the name of each argument."""
+    """A call: its name, the type and the name of each argument, and the type of what it returns."""
 
     name: str
     arguments: List[Tuple[str, str]]
-    is_deprecated: bool
+    returns: str
 
 
 def calls() -> List[Call]:
     """Returns the calls in the order of the header. Raises `SystemExit` if an argument is not understood."""
     found = []
-    for deprecated, name, words in CALL.findall((TOP / HEADER).read_text()):
-        arguments = [re.fullmatch(r"(.*?)(\w+)", " ".join(it.split())) for it in words.split(",")]
+    for returns, name, words in CALL.findall((TOP / HEADER).read_text()):
+        arguments = [re.fullmatch(r"(.*?)(\w+)", " ".join(it.split())) for it in words.split(",") if it != "void"]
         typed = [(it[1].strip(), it[2]) for it in arguments if it]
         if len(typed) < len(arguments) or any(it not in JAVA_AND_RUST for it, _ in typed):
             sys.exit(f"{HEADER}: the arguments of {name} are not understood")
-        found.append(Call(name, typed, bool(deprecated)))
+        found.append(Call(name, typed, returns))
     return found
 
 
 def called() -> List[Call]:
-    return [it for it in calls() if not it.is_deprecated]
+    """Returns the calls that have an outcome: all but that which returns the release."""
+    return [it for it in calls() if it.returns == "void"]
+
+
+def version() -> str:
+    """Returns the release that the sources are of."""
+    return re.search(r'"(\d+\.\d+\.\d+)"', (TOP / VERSION).read_text())[1]
+
+
+def version_number() -> int:
+    """Returns the release as one number, as 203 for 0.2.3."""
+    first, second, third = map(int, version().split("."))
+    if second > 99 or third > 99:
+        sys.exit(f"{VERSION}: the numbers of {version()} are too large to be one number")
+    return 10_000 * first + 100 * second + third
+
+
+def version_in_c() -> Iterator[str]:
+    yield "/* The release of this header. */"
+    yield f'#define CMS_CANON_VERSION "{version()}"'
+    yield "/* The same as one number: 10,000 times the first number, 100 times the second, and the third. */"
+    yield f"#define CMS_CANON_VERSION_NUMBER {version_number()}"
+
+
+def header() -> str:
+    region = Region(HEADER, f"/* The version: scripts/generate writes this from {VERSION} */", "/* the end of the version */", version_in_c)
+    return filled((TOP / HEADER).read_text(), region)
+
+
+def number() -> str:
+    """Returns the text of the code that returns the release, with its number."""
+    text, count = re.subn(r"(result ≡ |NUMBER: u32 = )\d+\b", rf"\g<1>{version_number()}", (TOP / NUMBER).read_text())
+    if count != 2:
+        sys.exit(f"{NUMBER} does not have the number twice")
+    return text
 
 
 def python() -> Iterator[str]:
@@ -123,8 +160,7 @@ def symbols() -> str:
     names = {it.name for it in calls()}
     if gone := sorted(known.keys() - names):
         sys.exit(f"{SYMBOLS}: {gone[0]} was released, and is not in {HEADER}")
-    version = re.search(r'"(\d+\.\d+\.\d+)', (TOP / VERSION).read_text())[1]
-    return head + "".join(f" {name}@Base {known.get(name, version)}\n" for name in sorted(names))
+    return head + "".join(f" {name}@Base {known.get(name, version())}\n" for name in sorted(names))
 
 
 def listed() -> str:
@@ -138,4 +174,5 @@ def listed() -> str:
 
 def files() -> Dict[str, str]:
     """Returns the texts of the files, by their names."""
-    return {PYTHON: "\n".join([*python(), ""]), JAVA: marked(JAVA, java), RUST: marked(RUST, rust), SYMBOLS: symbols(), USING: listed()}
+    bindings = {PYTHON: "\n".join([*python(), ""]), JAVA: marked(JAVA, java), RUST: marked(RUST, rust)}
+    return {**bindings, SYMBOLS: symbols(), USING: listed(), HEADER: header(), NUMBER: number()}

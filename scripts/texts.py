@@ -12,6 +12,7 @@ REFUSALS = "docs/texts/refusals.toml"
 FINDINGS = "docs/texts/findings.toml"
 MAKER = "Only the maker of the message can fix it."
 WIDTH = 79  # columns of help
+WIDTH_OF_C = 128
 Row = Dict[str, object]
 
 
@@ -45,10 +46,16 @@ def numbered(rows: Sequence[Row], name: str) -> List[Row]:
     return [*rows]
 
 
+def lacks() -> List[Meaning]:
+    """Returns why a message that is accepted has nothing to hand over."""
+    return [Meaning(it["number"], it["name"], it["means"], it["remedy"]) for it in tables_in(REFUSALS)["lack"]]
+
+
 REFUSED = numbered(tables_in(REFUSALS)["refusal"], REFUSALS)
 FOUND = numbered(tables_in(FINDINGS)["finding"], FINDINGS)
 PLACES = [Place(**it) for it in tables_in(REFUSALS)["place"]]
 WHY = [Meaning(it["number"], it["name"], it["means"], it["remedy"]) for it in REFUSED]
+LACKS = lacks()
 RULES = [Meaning(it["number"], it["text"], it["means"], it.get("remedy", "")) for it in FOUND]
 
 
@@ -185,6 +192,27 @@ def test_of_findings() -> Iterator[str]:
     yield from (f"F{it.number} {it.name}" for it in RULES)
 
 
+def cases_in_c(texts: Iterable[Tuple[int, str]]) -> Iterator[str]:
+    for number, text in texts:
+        line = f"    case {number}: return {json_of(text)};"
+        if len(line) <= WIDTH_OF_C:
+            yield line
+            continue
+        yield f"    case {number}:"
+        *lines, last = textwrap.wrap(text, WIDTH_OF_C - 18, drop_whitespace=False, break_on_hyphens=False)
+        whole = [*(json_of(it) for it in lines), f"{json_of(last)};"]
+        yield f"        return {whole[0]}"
+        yield from (f"               {it}" for it in whole[1:])
+
+
+def findings_in_c() -> Iterator[str]:
+    yield from cases_in_c((it.number, it.name) for it in RULES)
+
+
+def reasons_in_c() -> Iterator[str]:
+    yield from cases_in_c((it.number, f"{it.means} {it.remedy}") for it in [*WHY, *LACKS])
+
+
 def python_texts() -> Iterator[str]:
     yield '"""The texts of findings and refusals, from docs/texts/. scripts/generate writes this file."""'
     yield ""
@@ -273,7 +301,10 @@ def in_page(what: str, lines: Callable[[], Iterable[str]]) -> Region:
 
 
 HELP = "crates/cms_cli/src/texts.rt"
+IN_C = "bindings/c/cms_canon.h"
 REGIONS = [
+    Region(IN_C, "    /* The findings: scripts/generate writes this from docs/texts/findings.toml */", "    /* the end of the findings */", findings_in_c),
+    Region(IN_C, "    /* The reasons: scripts/generate writes this from docs/texts/refusals.toml */", "    /* the end of the reasons */", reasons_in_c),
     Region("crates/cms_listing/src/findings.rt", "    match code {", '        _ => "unknown finding",', rattle_of_findings),
     Region("crates/cms_tests/src/listings.rt", "/// The last finding, and a line for each, for the message.", '";', test_of_findings),
     Region(HELP, "What the reasons mean, and what to do:", "Exit status:", help_of_refusals),

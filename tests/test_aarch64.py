@@ -158,8 +158,8 @@ def test_vectors_under_qemu(command, tally, monkeypatch):
 @needs_arm
 @pytest.mark.parametrize("library", ["libcms_canon.a", "libcms_canon.so"])
 def test_library(tally, tmp_path, library):
-    (tmp_path / "libcms_canon.so.0").symlink_to(RELEASED / "libcms_canon.so")
-    linked = RELEASED / library if library.endswith(".a") else tmp_path / "libcms_canon.so.0"
+    (tmp_path / "libcms_canon.so.1").symlink_to(RELEASED / "libcms_canon.so")
+    linked = RELEASED / library if library.endswith(".a") else tmp_path / "libcms_canon.so.1"
     for name in ("answer", "calls"):
         words = [GCC, "-std=c11", "-Wall", "-Wextra", "-Werror", "-I", RELEASED, C_SOURCES / f"{name}.c", linked, "-pthread"]
         run([*words, f"-Wl,-rpath,{tmp_path}", "-o", tmp_path / name])
@@ -172,7 +172,7 @@ def test_library_without_memory(tally, tmp_path):
     """Sends requests, chosen at random, each with a growth refused: the library returns what is right, or says that it is out of memory."""
     seed = random.randrange(1 << 32)
     print(f"growths are refused at random by the seed {seed}")
-    library, refusing = tmp_path / "libcms_canon.so.0", tmp_path / "refusing.so"
+    library, refusing = tmp_path / "libcms_canon.so.1", tmp_path / "refusing.so"
     library.symlink_to(RELEASED / "libcms_canon.so")
     run([GCC, "-shared", "-fPIC", "-Wall", C_SOURCES / "refusing.c", "-o", refusing])
     run([GCC, "-std=c11", "-I", RELEASED, C_SOURCES / "answer.c", library, "-pthread", f"-Wl,-rpath,{tmp_path}", "-o", tmp_path / "answer"])
@@ -225,7 +225,7 @@ def test_packages_of_arm(runs_arm, tally, tmp_path):
         pytest.skip(f"there is no such machine: {error}")
     wanted = octets_of(read_vectors()[SMALLEST], "output")
     assert machine.succeed("dpkg --print-architecture && uname -m") == "arm64\naarch64\n"
-    names = ("cms-canon", "libcms-canon0", "libcms-canon-dev", "python3-cms-canon")
+    names = ("cms-canon", "libcms-canon1", "libcms-canon-dev", "python3-cms-canon")
     files = " ".join(f"./dist/packages/{it}_{VERSION}-1_arm64.deb" for it in names)
     tally.count("arm64/packages for Debian", why_failed(machine.run_as_root(f"apt-get install {files} python3-pip")))
     for what, words, output in (

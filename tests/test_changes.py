@@ -12,14 +12,10 @@ Every kind of change and every set have to occur.
 
 import json
 from collections import Counter
-from random import Random
 
 import listed_changes
-import countersignatures
-import generated_messages
-import openssl_tokens
+import messages_of_tools
 import pytest
-import real_messages
 from c_library import Library
 from programs import octets_in_vectors
 from tally import differing
@@ -77,26 +73,13 @@ def test_vectors(calls, tally):
 
 
 def test_tools(calls, tools, tally):
-    """What openssl and gpgsm make."""
-    made = openssl_tokens.make_all(tools)
-    for message in real_messages.all_messages(tools, tally):
-        judge(tally, calls, message.name, message.octets)
-    for name, token in made.items():
-        for kind in ("request", "response", "token"):
-            judge(tally, calls, f"{name}, {kind}", getattr(token, kind))
+    for name, octets in messages_of_tools.of_openssl_and_gpgsm(tools, tally):
+        judge(tally, calls, name, octets)
 
 
 def test_countersignatures(calls, tools, tally):
-    """What BouncyCastle makes, and other spellings of it."""
-    if missing := countersignatures.missing_for_java():
-        return tally.skip("BouncyCastle", f"{', '.join(missing)} not installed")
-    countersignatures.make_keys(tools)
-    countersignatures.build_java(tools)
-    random, plans = Random(generated_messages.SEED), [*countersignatures.plans()]
-    made = countersignatures.bouncy_castle(tools, "make", [f"{form} {signers}" for _, form, signers in plans])
-    for (name, form, _), octets in zip(plans, map(bytes.fromhex, made)):
-        for given in (octets, *countersignatures.spellings_of(octets, random)):
-            judge(tally, calls, f"{name}, {form}", given)
+    for name, octets, _ in messages_of_tools.of_bouncy_castle(tools, tally):
+        judge(tally, calls, name, octets)
 
 
 def kinds_in(octets):
@@ -107,16 +90,10 @@ def kinds_in(octets):
             yield listed_changes.SETS[change.set - 1]
 
 
-def test_generated(calls, tally, monkeypatch):
-    monkeypatch.setattr(generated_messages, "LONG_CONTENT", 5_000)
-    random, seen = generated_messages.beginning(), Counter()
-    makers = [generated_messages.signed_message] * 2 + [generated_messages.request, generated_messages.response]
-    for index in range(MESSAGES // SPELLINGS):
-        message, *_ = random.choice(makers)(random)
-        spellings = [message.ber(random) for _ in range(SPELLINGS - 1)]
-        for given in (*spellings, message.der()):
-            judge(tally, calls, f"message {index}", given)
-            seen.update(kinds_in(given) if calls.convert(given).status == 0 else ())
-        judge(tally, calls, f"message {index}, damaged", generated_messages.damaged(random, spellings[0]))
+def test_generated(calls, tally):
+    seen = Counter()
+    for name, octets in messages_of_tools.at_random(MESSAGES, SPELLINGS):
+        judge(tally, calls, name, octets)
+        seen.update(kinds_in(octets) if calls.convert(octets).status == 0 else ())
     for kind in (*listed_changes.NAMES.values(), *listed_changes.SETS):
         tally.count(f"{kind} occurs", "" if seen[kind] else "in no message")

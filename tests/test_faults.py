@@ -29,7 +29,7 @@ from pathlib import Path
 from typing import NamedTuple
 
 import pytest
-from calls import calls
+from calls import called
 from generated_messages import MARK, beginning, request, response, signed_message
 from programs import MOST_NEEDLESS_GROWTHS, RELEASE, TOP, WRITERS, Outcome, built_refusing, complaint_of_growths, first, octets_of, read_vectors
 from tally import fail_if
@@ -254,7 +254,7 @@ def judge_c(folder):
     asked += [f"cover {LIMIT} {messages[2]} 0 616263", f"part {LIMIT} {messages[2]} 0 1"]
     path = path_of(folder, "".join(f"{line}\n" for line in asked).encode())
     answer = Path(folder, "answer")
-    os.symlink(RELEASE / "libcms_canon.so", Path(folder, "libcms_canon.so.0"))
+    os.symlink(RELEASE / "libcms_canon.so", Path(folder, "libcms_canon.so.1"))
     there = [f"-I{RELEASE}", f"-L{RELEASE}", f"-Wl,-rpath,{folder}", "-lcms_canon"]
     subprocess.run(["gcc", TOP / "tests" / "c" / "answer.c", *there, "-o", answer], check=True)
     whole = run([answer], path).stdout.splitlines()
@@ -303,5 +303,5 @@ def test_library_for_c(pool, tmp_path):
 
 def test_calls_of_the_header(pool, tally, tmp_path):
     files = [path_of(tmp_path, octets_of(EVERY[name], "input")) for name in FILES_OF_CALLS]
-    for call, differs in zip(calls(), pool.map(lambda call: judge_call(call, files), calls())):
+    for call, differs in zip(called(), pool.map(lambda call: judge_call(call, files), called())):
         tally.count(call.name, differs)

@@ -7,7 +7,7 @@ requests, responses and tokens. Of each it is checked that
 
 - a message that is refused is refused as `cms_canon_convert` refuses it, and as `read` of the package raises it;
 - the rows are those of the walk, each in its place, and are the same with just enough room; with less room none is written;
-- `cms_canon_cover` and `cms_canon_part` write what the walk finds;
+- `cms_canon_cover` writes what the walk finds;
 - each attribute of the object is what the walk finds, and so is what `to_json` writes;
 - the content of a token is refused as a TSTInfo if `show` says that it is none.
 
@@ -18,24 +18,23 @@ import json
 import sys
 from collections import Counter, namedtuple
 from datetime import datetime
-from random import Random
 
-import countersignatures
 import generated_messages
+import messages_of_tools
 import openssl_tokens
 import pytest
 import real_messages
 from c_library import LIMIT, Library
 from elements import ID_CT_TST_INFO, element as written, message as message_of, oid, token_around
-from generated_messages import SEED, OctetString, Primitive, Sequence, TrueOrAbsent, any_opaque, sometimes
+from generated_messages import any_token, any_tst_info
 from programs import octets_in_vectors
 from tst_model import tst_info_of
-from walk import KINDS, TST_INFO, countersignatures_of, fields_of, fields_of_tst_info, parts_of
+from walk import KINDS, TST_INFO, countersignatures_of, fields_of, fields_of_tst_info
 
 MESSAGES = 20_000
 SPELLINGS = 10  # of each message made at random, the last one in DER
-MOST_SIGNERS = 10  # of a message whose parts are asked for: each call reads the whole message
-NO_CONTENT, NO_PART, NO_TST_INFO = 103, 104, 105
+MOST_SIGNERS = 10  # of a message whose covers are asked for: each call reads the whole message
+NO_CONTENT, NO_TST_INFO = 103, 105
 EXACT = (1 << 53) - 1  # the largest whole number that to_json writes as one
 
 OPTIONAL = {  # what may be absent, by the row that is there all the same
@@ -102,9 +101,6 @@ def complaints_of_signer(library, octets, path, signer, detached):
         yield differ(f"cover {path}", NO_CONTENT, covered.reason)
     else:
         yield differ(f"cover {path}", (0, signer["covered"]), (covered.status, covered.output))
-    for number, part in parts_of(signer):
-        came = library.part(octets, path, number)
-        yield differ(f"part {number} of {path}", (0, part) if part is not None else (NO_PART, b""), (came.reason, came.output))
     for number, inner in enumerate(countersignatures_of(signer)):
         yield from complaints_of_signer(library, octets, [*path, number], inner, detached)
 
@@ -213,8 +209,6 @@ def complaints_of_message(asker, octets, detached):
     if signed_data is not None:
         for number, signer in enumerate(signed_data["signers"][:MOST_SIGNERS]):
             yield from complaints_of_signer(asker.library, octets, [number], signer, detached)
-        for number, certificate in enumerate((signed_data["certificates"] or [])[:MOST_SIGNERS]):
-            yield differ(f"certificate {number}", certificate, asker.library.part(octets, [number], 9).output)
         if signed_data["content_type"] == TST_INFO and signed_data["content"] is not None:
             is_right = "\ntst: not der\n" not in asker.package.show(octets)
             complaint, tst_info = judge_tst_info(asker, signed_data["content"], is_right)
@@ -253,49 +247,8 @@ def test_tools(asker, tools, tally):
 
 
 def test_countersignatures(asker, tools, tally):
-    if missing := countersignatures.missing_for_java():
-        return tally.skip("BouncyCastle", f"{', '.join(missing)} not installed")
-    countersignatures.make_keys(tools)
-    countersignatures.build_java(tools)
-    random, plans = Random(SEED), [*countersignatures.plans()]
-    made = countersignatures.bouncy_castle(tools, "make", [f"{form} {signers}" for _, form, signers in plans])
-    for (name, form, _), octets in zip(plans, map(bytes.fromhex, made)):
-        detached = countersignatures.CONTENT if form == "detached" else None
-        for given in (octets, *countersignatures.spellings_of(octets, random)):
-            judge(tally, asker, f"{name}, {form}", given, detached)
-
-
-def any_time(random):
-    """Returns a time in DER, or a text that is nearly one, and whether it is one."""
-    year, month, day = random.choice((0, 1, 1970, random.randrange(10000))), random.randint(1, 13), random.randint(1, 28)
-    second, hour = random.choice((0, 59, 59, 60)), random.randrange(25)
-    fraction = "".join(random.choices("0123456789", k=random.choice((0, 0, 1, 6, 7, 20))))
-    text = f"{year:04}{month:02}{day:02}{hour:02}{random.randrange(60):02}{second:02}{f'.{fraction}' if fraction else ''}Z"
-    return text, month <= 12 and hour <= 23 and second <= 59 and not fraction.endswith("0")
-
-
-def any_tst_info(random):
-    """Returns a TSTInfo in DER, or octets that are nearly one, and whether it is one."""
-    time, is_time = any_time(random)
-    numbers = {0x02: random.choice((0, 1, 1 << 70)), 0x80: random.choice((1, 999, 0, 1000)), 0x81: random.choice((1, 500, 999))}
-    there = {identifier: number for identifier, number in numbers.items() if random.random() < 0.5}
-    parts = [Primitive(it, number.to_bytes(number.bit_length() // 8 + 1, "big")) for it, number in there.items()]
-    accuracy, is_accuracy = (Sequence(*parts), there.get(0x80, 1) in range(1, 1000)) if random.random() < 0.5 else (None, True)
-    imprint = Sequence(generated_messages.algorithm(random), OctetString(generated_messages.octets(random, 64)))
-    integer, policy = generated_messages.integer, generated_messages.identifier_of_an_object(random)
-    fields = [integer(random), policy, imprint, integer(random), Primitive(0x18, time.encode()), accuracy]
-    fields += [TrueOrAbsent(random.random() < 0.5), sometimes(random, lambda: integer(random))]
-    fields += [sometimes(random, lambda: any_opaque(random, it)) for it in (0xA0, 0xA1)]
-    return Sequence(*fields).der(), is_time and is_accuracy
-
-
-def any_token(random):
-    """Returns a token, its detached content or None, and what its signers cover, which is not looked at."""
-    message, _, covers = generated_messages.signed_message(random)
-    encapsulated = message.parts[1].parts[0].parts[2]
-    content, _ = any_tst_info(random)
-    encapsulated.parts = [Primitive(0x06, ID_CT_TST_INFO[2:]), Sequence(OctetString(content), identifier=0xA0)]
-    return message, None, covers
+    for name, octets, detached in messages_of_tools.of_bouncy_castle(tools, tally):
+        judge(tally, asker, name, octets, detached)
 
 
 def spelled_by_name(part, random):

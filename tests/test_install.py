@@ -3,9 +3,9 @@
 It is checked that
 
 - every file is there, with the contents and the mode that it has to have, and with the version that the program prints;
-- the installed program converts, and so does a program in C that is linked to the installed library, shared and static;
-- the manual page is formatted without warnings, in 80 columns, and has every refusal and finding of docs/FORMATS.md;
-- the completions are read by their shells, and bash and fish complete words by them;
+- the installed program converts, and so does a program in C that is linked to the installed library, shared and static, by pkg-config and by CMake;
+- the manual pages are formatted without warnings, in 80 columns, and that of the command has every refusal and finding of docs/FORMATS.md;
+- the completions are read by their shells, bash and fish complete words by them, and each shell the name of a file after `<`;
 - a second installation works, a prefix may have a space in it, DESTDIR is heeded, and `--uninstall` leaves no file;
 - a wrong word, a bad prefix, another machine, and a release with a missing or an altered file are refused, and then nothing
   is installed.
@@ -18,10 +18,12 @@ import subprocess
 import tomllib
 from pathlib import Path
 
+import pytest
 from elements import flipped
 from package_tools import copy_of_repository
 from programs import DATA_FILES, SMALLEST, TOP, octets_of, read_vectors
 from tally import differing
+from terminals import Terminal
 
 DIST = Path("dist") / "x86_64-linux"
 SECONDS = 60  # no run may take longer
@@ -29,9 +31,11 @@ SECONDS = 60  # no run may take longer
 READ = tomllib.loads((DATA_FILES / "install.toml").read_text())
 COPIES = READ["copies"]
 PAGE = "share/man/man1/cms-canon.1"
+PAGES_OF_CALLS = {f"share/man/man3/{it.name}" for it in (TOP / "docs" / "man").glob("*.3")}
 PKG_CONFIG = "lib/pkgconfig/cms_canon.pc"
+CMAKE = "lib/cmake/cms_canon/cms_canon-config-version.cmake"
 LINK = "lib/libcms_canon.so"
-INSTALLED = {*COPIES, PAGE, PKG_CONFIG, LINK}
+INSTALLED = {*COPIES, PAGE, *PAGES_OF_CALLS, PKG_CONFIG, CMAKE, LINK}
 C_PROGRAM = TOP / "tests" / "c" / "installed.c"
 MESSAGE, WANTED = (octets_of(read_vectors()[SMALLEST], it) for it in ("input", "output"))
 
@@ -77,7 +81,7 @@ def why_not_filled_in(prefix, name, wanted):
 
 def check_files(tally, prefix, used_below=None):
     """Checks each file; it is to be used below another prefix if DESTDIR was set."""
-    version = run(prefix / "bin/cms-canon", "--version").stdout.decode().removeprefix("cms-canon ").strip()
+    version = version_in(prefix)
     tally.count("files", differing(sorted(INSTALLED), sorted(files_below(prefix))))
     if files_below(prefix) != INSTALLED:
         return
@@ -85,9 +89,14 @@ def check_files(tally, prefix, used_below=None):
         tally.count(name, why_not_as_it_is(prefix, name))
     modes = {f"{path.stat().st_mode & 0o777:o}" for path in prefix.rglob("*") if path.is_dir()}
     tally.count("modes of folders", differing({"755"}, modes))
-    tally.count(LINK, differing("libcms_canon.so.0", os.readlink(prefix / LINK)))
+    tally.count(LINK, differing("libcms_canon.so.1", os.readlink(prefix / LINK)))
     title = f'.TH CMS-CANON 1 "" "cms-canon {version}" "User Commands"'
     tally.count(f"{PAGE}: version", why_not_filled_in(prefix, PAGE, title))
+    for page in sorted(PAGES_OF_CALLS):
+        name = Path(page).stem
+        wanted = f'.TH {name.upper()} 3 "" "cms-canon {version}" "Library Functions Manual"'
+        tally.count(f"{page}: version", why_not_filled_in(prefix, page, wanted))
+    tally.count(f"{CMAKE}: version", why_not_filled_in(prefix, CMAKE, f'set(PACKAGE_VERSION "{version}")'))
     tally.count(f"{PKG_CONFIG}: version", why_not_filled_in(prefix, PKG_CONFIG, f"Version: {version}"))
     tally.count(f"{PKG_CONFIG}: prefix", why_not_filled_in(prefix, PKG_CONFIG, f"prefix={used_below or prefix}"))
 
@@ -127,6 +136,36 @@ def check_library(tally, prefix, folder):
                 tally.count(f"a program in C, {kind}: run", why_not_done(ended) or differing(WANTED, ended.stdout))
 
 
+def check_cmake(tally, prefix, folder):
+    """Checks that a project of CMake finds the library, links with it in both ways, and is refused a version that is not this one's or a missing file."""
+    if not tally.has("cmake", "a project of CMake"):
+        return
+    version = version_in(prefix)
+
+    def configured(name, wanted):
+        words = ("-S", TOP / "tests" / "c" / "cmake", "-B", folder / name, f"-DCMAKE_PREFIX_PATH={prefix}", f"-DWANTED={wanted}")
+        return run("cmake", *words)
+
+    tally.count("a project of CMake: found", "" if configured("cmake", version).returncode == 0 else told(configured("cmake", version)))
+    built = run("cmake", "--build", folder / "cmake")
+    tally.count("a project of CMake: built", "" if built.returncode == 0 else told(built))
+    for kind in ("shared", "static") if built.returncode == 0 else ():
+        ended = run(folder / "cmake" / kind, given=MESSAGE)
+        tally.count(f"a project of CMake, {kind}: run", why_not_done(ended) or differing(WANTED, ended.stdout))
+    for name, wanted, is_found in (("the first release of its ABI", "0.27.0", True), ("an older ABI", "0.26.0", False), ("a later release", "99.0", False)):
+        tally.count(f"a project of CMake: {name}", differing(is_found, configured(name.replace(" ", "-"), wanted).returncode == 0))
+    (prefix / "lib" / "libcms_canon.a").rename(folder / "libcms_canon.a")
+    refused = configured("cmake-without-a-file", version)
+    (folder / "libcms_canon.a").rename(prefix / "lib" / "libcms_canon.a")
+    is_said = refused.returncode != 0 and b"libcms_canon.a is missing" in b" ".join(refused.stderr.split())
+    tally.count("a project of CMake: a file that is missing", "" if is_said else told(refused))
+
+
+def version_in(prefix):
+    """Returns the version of what was installed."""
+    return run(prefix / "bin/cms-canon", "--version").stdout.decode().removeprefix("cms-canon ").strip()
+
+
 def check_page(tally, page):
     """Checks how a manual page is formatted."""
     if tally.has("man", page.name):
@@ -162,13 +201,15 @@ def test_installation(tally, tmp_path):
         tally.count(f"{PAGE}: {number}", "" if f"\n{number}\n.br\n{name}\n" in page else f"it has no {name}")
     for number in dict.fromkeys(re.findall(r"^\| (F[0-9]+) \|", formats, re.MULTILINE)):
         tally.count(f"{PAGE}: {number}", "" if f"\n.B {number} " in page else "it is not there")
-    check_page(tally, prefix / PAGE)
+    for name in (PAGE, *sorted(PAGES_OF_CALLS)):
+        check_page(tally, prefix / name)
     check_completions(tally, prefix)
     check_library(tally, prefix, tmp_path)
-    before = (prefix / "lib/libcms_canon.so.0").stat().st_ino
+    check_cmake(tally, prefix, tmp_path)
+    before = (prefix / "lib/libcms_canon.so.1").stat().st_ino
     again = run(TOP / "install", prefix, LD_LIBRARY_PATH=f"{prefix}/lib")
     tally.count("install again", why_not_done(again) or differing(1, len(again.stdout.splitlines())))
-    is_same = (prefix / "lib/libcms_canon.so.0").stat().st_ino == before
+    is_same = (prefix / "lib/libcms_canon.so.1").stat().st_ino == before
     tally.count("a library in use is replaced", "it was overwritten" if is_same else "")
     tally.count("files of both", differing(sorted(INSTALLED), sorted(files_below(prefix))))
     (prefix / PAGE).unlink()
@@ -178,6 +219,28 @@ def test_installation(tally, tmp_path):
         tally.count(name, why_not_done(ended) or differing(removed, len({*words} & INSTALLED)))
         tally.count(f"{name}: files", differing(set(), files_below(prefix)))
         tally.count(f"{name}: one line", differing(1, len(ended.stdout.splitlines())))
+
+
+SET_UP = {  # by shell: what it is told, so that it completes the words of the command
+    "bash": "source {folder}/cms-canon.bash",
+    "zsh": "fpath=({folder} $fpath); autoload -U compinit; compinit -u -D",
+    "fish": "source {folder}/cms-canon.fish",
+}
+
+
+@pytest.mark.parametrize("shell", SET_UP)
+def test_files_after_a_redirection(tally, tmp_path, shell):
+    """Each shell completes the name of a file after `<`, and none without it, since the command takes no file."""
+    if not tally.has(shell, f"{shell}: files"):
+        return
+    (tmp_path / "message-in-ber.p7s").touch()
+    for typed, is_completed in (("cms-canon convert < mess\t", True), ("cms-canon show <mess\t", True), ("cms-canon convert mess\t", False)):
+        with Terminal(shell, tmp_path) as terminal:
+            terminal.types(SET_UP[shell].format(folder=TOP / "packaging" / "completions") + "; echo rea''dy\n")
+            is_ready = terminal.says("ready\r\n")
+            terminal.types(typed)
+            came = terminal.says("age-in-ber.p7s", 20 if is_completed else 3)
+            tally.count(f"{shell}: {typed[:-1]}", "" if is_ready and came == is_completed else f"{terminal.said!r}")
 
 
 def test_space(tally, tmp_path):

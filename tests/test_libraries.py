@@ -84,7 +84,7 @@ def test_c_under_valgrind(c, tally):
 def test_rooms(tally, tmp_path, name, content):
     """Rooms for the DER are as large as it, larger and smaller; and each growth of the library's memory is refused. Long content is lent until it is
     copied into the room."""
-    program, library = tmp_path / "room", tmp_path / "libcms_canon.so.0"
+    program, library = tmp_path / "room", tmp_path / "libcms_canon.so.1"
     library.symlink_to(RELEASE / "libcms_canon.so")
     run(["gcc", *WARNINGS, C_SOURCES / "room.c", library, f"-Wl,-rpath,{tmp_path}", "-o", program])
     ber, der = message_with(content)
@@ -155,7 +155,7 @@ def python(tmp_path_factory):
 
 
 def test_python(python, tally, tmp_path):
-    compare(tally, "Python", asked_of(requests(), "part", "read", "digests"), [python, PYTHON_TESTS / "answer.py"], cwd=tmp_path)
+    compare(tally, "Python", asked_of(requests(), "read", "digests"), [python, PYTHON_TESTS / "answer.py"], cwd=tmp_path)
     said, wanted = (run(words) for words in ([python, "-c", SAY_VERSION], [RELEASE / "cms-canon", "--version"]))
     tally.count("Python/the version", "" if said == wanted else f"the package says {said!r}, and the program {wanted!r}")
 
@@ -191,7 +191,8 @@ print(json.dumps([test.id() for case in unittest.defaultTestLoader.loadTestsFrom
 def java(tmp_path_factory):
     """A folder with the classes."""
     folder = tmp_path_factory.mktemp("java")
-    run(["javac", "-Xlint:all", "-Werror", "-d", folder, "-cp", JARS, *(TOP / "bindings" / "java").glob("**/*.java")])
+    sources = [it for it in (TOP / "bindings" / "java").glob("**/*.java") if it.name != "module-info.java"]
+    run(["javac", "-Xlint:all", "-Werror", "-d", folder, "-cp", JARS, *sources])
     return folder
 
 
@@ -214,7 +215,7 @@ needs_java = needs("java", "javac", JNA, JUNIT)
 
 @needs_java
 def test_java(java, tally):
-    asked = asked_of(requests(), "part", "pieces", "digests")
+    asked = asked_of(requests(), "pieces", "digests")
     for name, message, detached, lines in cases():  # as objects
         answer = f"3 {lines[0]}" if lines[0].startswith("refused") else f"0 {'; '.join(lines)}"
         asked.append((name, request("fields", message, word_of(detached)), answer))
@@ -232,7 +233,7 @@ def test_class_of_java(java, tally, name, options):
 @needs("gcc")
 def test_java_with_a_library_in_front(java, tally, tmp_path):
     """One class counts calls, with a library in front that counts them, and for another one a growth is refused."""
-    real = tmp_path / "libcms_canon.so.0"
+    real = tmp_path / "libcms_canon.so.1"
     real.symlink_to(RELEASE / "libcms_canon.so")
     linked = ["-Wl,--no-as-needed", real, "-Wl,-rpath,$ORIGIN"]
     counting = TOP / "bindings" / "java" / "test" / "counting.c"

@@ -217,11 +217,14 @@ def complaints_of_scripts():
 
 
 def complaints_of_names():
-    """Yields each refusal whose name in texts/ is not that of the program, or is another one in REFUSALS."""
+    """Yields each refusal, and each reason of the library for C, whose name in texts/ is not that of the program, or is another one in REFUSALS."""
     source = (TOP / "crates" / "cms_tlv" / "src" / "fault.rt").read_text()
     names = dict(re.findall(r'Reason::(\w+) => "(\w+)",', source))
     known = {int(number): names[reason] for reason, number in re.findall(r"^    (\w+) = (\d+),$", source, re.M)}
-    yield from differences("docs/texts/refusals.toml", "E", table_in("docs/texts/refusals.toml", r'^number = (\d+)\nname = "(.*)"'), known)
+    yield from differences("docs/texts/refusals.toml", "E", table_in("docs/texts/refusals.toml", r'^\[\[refusal\]\]\nnumber = (\d+)\nname = "(.*)"'), known)
+    outcomes = (TOP / "crates" / "cms_c" / "src" / "outcome.rt").read_text()
+    lacks = {int(number): name for number, name in re.findall(r'refused\((\d+), 0, "([^"]+)"\)', outcomes)}
+    yield from differences("docs/texts/refusals.toml", "", table_in("docs/texts/refusals.toml", r'^\[\[lack\]\]\nnumber = (\d+)\nname = "(.*)"'), lacks)
     some = table_in("docs/REFUSALS.md", r"\bE(\d+) ([A-Z]\w+)")
     yield from differences("docs/REFUSALS.md", "E", some, {it: known.get(it) for it in some})
 
@@ -255,6 +258,16 @@ def complaints_of_findings():
         yield from (f"F{it} {why}" for it in sorted(those))
 
 
+def complaints_of_nulls():
+    """Yields each public member for Java whose documentation says that it may be null, and that has no annotation which says so."""
+    member = re.compile(r" */\*\*((?:(?!\*/).)*)\*/\n((?: *@\w+\n)*[^\n]*\bpublic\b[^{;]*)", re.S)
+    for file in sorted((TOP / "bindings" / "java" / "src").rglob("*.java")):
+        for said, declared in member.findall(file.read_text()):
+            says_null = re.search(r"\bnull\b", said) and "Refuses" not in said and "{@code null}" not in said
+            if says_null and "@Nullable" not in declared and " class " not in declared and "@interface" not in declared:
+                yield f"{file.relative_to(TOP)}: {' '.join(declared.split())[:80]} may be null, and is not @Nullable"
+
+
 def complaints_of_calls():
     """Yields each call of the library for C that is not in each place where a call has to be."""
     source, header = TOP / "crates" / "cms_c" / "src", (TOP / HEADER).read_text()
@@ -263,7 +276,7 @@ def complaints_of_calls():
     places = {
         "crates/cms_c/src": functions,
         "crates/cms_c/src/lib.rt": set(re.findall(r"\bcms_canon_\w+", "".join(exports))),
-        HEADER: set(re.findall(r"^void (cms_canon_\w+)\(", header, re.M)),
+        HEADER: set(re.findall(r"^(?:void|uint32_t) (cms_canon_\w+)\(", header, re.M)),
         "an edit of cms_c that says `# carried by:`": set(re.findall(r"\bcms_canon_\w+", promises_in("cms_c"))),
         "tests/c": {it for file in TOP.glob("tests/c/*.c") for it in re.findall(r"\b(cms_canon_\w+)\(", file.read_text())},
         **{file: set(re.findall(r"\bcms_canon_\w+", (TOP / file).read_text())) for file in ("CHANGELOG.md", "docs/TRUST.md")},
@@ -291,7 +304,7 @@ def complaints_of_prototypes():
         came = [(kind, re.sub("_(length|count|room)$", "", name) if kind == "size_t" else name) for kind, name in call.arguments]
         if came != wanted.get(call.name):
             yield f"{HEADER}: {call.name} takes {came}, and in the code it takes {wanted.get(call.name)}"
-        if not re.search(rf"^ \*/\n(?:CMS_CANON_DEPRECATED\n)?void {call.name}\(", header, re.M):
+        if not re.search(rf"^ \*/\n{call.returns} {call.name}\(", header, re.M):
             yield f"{HEADER}: there is no comment above {call.name}"
     said = dict(re.findall(r"^## (\S+) - .*\n((?:(?!## ).*\n)*)", history, re.M))
     for name, version in re.findall(r"^ (\w+)@Base (\S+)$", (TOP / SYMBOLS).read_text(), re.M):

@@ -43,7 +43,7 @@ def package(tmp_path_factory):
 
 @needs("node")
 def test_answers(tally, package):
-    asked = [*asked_of(requests(), "pieces", "lines", "jobs", "part"), *extents()]
+    asked = [*asked_of(requests(), "pieces", "lines", "jobs"), *extents()]
     compare(tally, "JavaScript", asked, ["node", WEB / "tests" / "answer.mjs", package])
 
 

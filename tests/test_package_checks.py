@@ -60,7 +60,8 @@ def test_debian(tally, found, name):
     package, expected = EVERY_DEBIAN[name]
     own, documents = inside(found, name), [f"usr/share/doc/{package}/{it}" for it in ("copyright", "changelog.Debian.gz", "changelog.gz")]
     links, modules = expected.get("links", {}), expected_modules(expected["modules"]) if "modules" in expected else {}
-    wanted = {**expected["files"], **links, **dict.fromkeys(documents, ""), **{f"{MODULES}/{path}": source for path, source in modules.items()}}
+    beside = {f"usr/share/doc/{package}/{name}": path for name, path in documents_beside(expected).items()}
+    wanted = {**expected["files"], **beside, **links, **dict.fromkeys(documents, ""), **{f"{MODULES}/{path}": source for path, source in modules.items()}}
     there = {path for path, it in own.items() if it.kind != "folder" and "DEBIAN/" not in path and "!" not in path}
     tally.count(f"{name}: files", differing([], sorted({*wanted} ^ there)))
     for path in sorted({*wanted} & there):
@@ -82,6 +83,12 @@ def test_debian(tally, found, name):
     tally.count(f"{name}: notices of the crates of the kit", differing([], sorted(missing)))
     is_well = debian_changelog.startswith(f"cms-canon ({VERSION}-1) ") and changelog == CHANGELOG
     tally.count(f"{name}: changelog", "" if is_well else "it is not that of the version")
+
+
+def documents_beside(expected):
+    """Returns the names of the README and the documents that a package has, by where they come from."""
+    base, *patterns = expected.get("documents", [""])
+    return {str(path.relative_to(TOP / base)): str(path.relative_to(TOP)) for pattern in patterns for path in (TOP / base).glob(pattern)}
 
 
 def why_not_from(member, source, is_link):
@@ -107,6 +114,10 @@ def test_texts(tally, found):
     for target in READ["targets"].values():
         libraries, name = target["LIBRARIES"], f"libcms-canon-dev_{VERSION}-1_{target['ARCHITECTURE']}.deb"
         config = found[f"{name}!usr/lib/{libraries}/pkgconfig/cms_canon.pc"].octets.decode()
+        version = found[f"{name}!usr/lib/{libraries}/cmake/cms_canon/cms_canon-config-version.cmake"].octets.decode()
+        tally.count(f"{name}: CMake", "" if f'set(PACKAGE_VERSION "{VERSION}")\n' in version else "no version")
+        page = found[f"{name}!usr/share/man/man3/cms_canon_convert.3.gz"].octets.decode()
+        tally.count(f"{name}: manual", "" if f'.TH CMS_CANON_CONVERT 3 "" "cms-canon {VERSION}"' in page else "no version")
         lines = {"prefix=/usr", f"libdir=${{prefix}}/lib/{libraries}", f"Version: {VERSION}"}
         tally.count(f"{name}: pkg-config", differing([], sorted(lines - {*config.splitlines()})))
 
@@ -114,11 +125,11 @@ def test_texts(tally, found):
 @needs("readelf")
 @pytest.mark.parametrize("target", TARGETS)
 def test_symbols(tally, found, target):
-    library, package = DIST / target / "libcms_canon.so", f"libcms-canon0_{VERSION}-1_{READ['targets'][target]['ARCHITECTURE']}.deb"
+    library, package = DIST / target / "libcms_canon.so", f"libcms-canon1_{VERSION}-1_{READ['targets'][target]['ARCHITECTURE']}.deb"
     named = re.search(r"SONAME\).*\[(.*)\]", ended(["readelf", "-dW", library]).output)
-    tally.count("name of the library for the loader", differing("libcms_canon.so.0", named and named[1]))
+    tally.count("name of the library for the loader", differing("libcms_canon.so.1", named and named[1]))
     shlibs = found[f"{package}!DEBIAN/shlibs"].octets
-    tally.count("name of the library for dpkg", differing(b"libcms_canon 0 libcms-canon0\n", shlibs))
+    tally.count("name of the library for dpkg", differing(b"libcms_canon 1 libcms-canon1\n", shlibs))
     listed = re.findall(r"^ (\w+)@Base", found[f"{package}!DEBIAN/symbols"].octets.decode(), re.M)
     shown = ended(["readelf", "--dyn-syms", "-W", library]).output
     tally.count("symbols of the library", differing(sorted(re.findall(r"GLOBAL +DEFAULT +\d+ (\w+)$", shown, re.M)), sorted(listed)))
@@ -267,15 +278,49 @@ def test_jar(tally, found):
     for target, names in READ["targets"].items():
         library = classes.get(f"{names['JNA']}/libcms_canon.so")
         tally.count(f"library in the jar for {target}", "" if library == source_of(f"dist/{target}/libcms_canon.so") else "it is another one, or none")
-    public = {it.replace(".java", ".html") for it in sources if b"\npublic " in sources[it]}
+    public = {it.replace(".java", ".html") for it in sources if b"\npublic " in sources[it] and it != "module-info.java"}
     tally.count("pages of javadoc", differing([], sorted(public - {*pages})))
     pom = (PACKAGES / f"cms-canon-{VERSION}.pom").read_text(encoding="utf-8")
     manifest = classes["META-INF/MANIFEST.MF"].decode().split("\r\n")
-    tally.count("module of the jar", "" if "Automatic-Module-Name: cmscanon" in manifest and manifest[-2:] == ["", ""] else str(manifest))
+    tally.count("manifest of the jar", "" if f"Implementation-Version: {VERSION}" in manifest and manifest[-2:] == ["", ""] else str(manifest))
     lines = ("<groupId>cmscanon</groupId>", "<artifactId>cms-canon</artifactId>", "<artifactId>jna</artifactId>")
     for line in (f"<version>{VERSION}</version>", *lines):
         tally.count(f"POM: {line}", "" if line in pom else "it is not there")
     tally.count("POM: what is filled in", "there is a place left" if re.search("@[A-Z_]+@", pom) else "")
+
+
+MODULE_OF_A_USER = {
+    "module-info.java": "module user { requires cmscanon; }",
+    "user/Main.java": """package user;
+
+import cmscanon.CmsCanon;
+
+class Main {
+    public static void main(String[] words) throws Exception {
+        System.out.write(CmsCanon.convert(System.in.readAllBytes()));
+        System.out.flush();
+    }
+}
+""",
+}
+
+
+@needs("java", "javac", "jar", JNA)
+def test_module_of_java(tally, tmp_path):
+    """The jar is a module, and works for a module that requires it."""
+    jar = PACKAGES / f"cms-canon-{VERSION}.jar"
+    described = ended(["jar", "--describe-module", "--file", jar]).output
+    is_module = all(it in described for it in ("exports cmscanon\n", "requires com.sun.jna\n")) and "automatic" not in described
+    tally.count("the jar is a module", "" if is_module else described)
+    for name, text in MODULE_OF_A_USER.items():
+        (tmp_path / "src" / name).parent.mkdir(parents=True, exist_ok=True)
+        (tmp_path / "src" / name).write_text(text)
+    path, classes = f"{jar}:{JNA}", tmp_path / "classes"
+    compiled = ended(["javac", "-p", path, "-d", classes, *(tmp_path / "src" / it for it in MODULE_OF_A_USER)])
+    tally.count("a module that requires it is compiled", why_failed(compiled))
+    words = ["java", "-p", f"{path}:{classes}", "-m", "user/user.Main"]
+    done = subprocess.run(words, stdin=(TOP / "examples" / "message.ber").open("rb"), capture_output=True, timeout=60)
+    tally.count("a module that requires it runs", differing(DER, hashlib.sha256(done.stdout).hexdigest()) and done.stderr.decode())
 
 
 # ---- used by themselves

@@ -81,12 +81,12 @@ def tools_that_differ():
 def test_wrong_packages(tally, made_again, tmp_path):
     """Makes packages wrong, which the comparison of what is in them has to find."""
     made = in_folder(made_again / "packages")
-    command, library = f"cms-canon_{VERSION}-1_amd64.deb", f"libcms-canon0_{VERSION}-1_amd64.deb"
+    command, library = f"cms-canon_{VERSION}-1_amd64.deb", f"libcms-canon1_{VERSION}-1_amd64.deb"
     for name, change in (
         (command, "chmod 700 usr/bin/cms-canon"),
         (command, "touch usr/bin/other"),
         (command, "rm usr/share/zsh/vendor-completions/_cms-canon"),
-        (library, f"printf x >>{LIBRARIES}/libcms_canon.so.0"),
+        (library, f"printf x >>{LIBRARIES}/libcms_canon.so.1"),
         (library, "rm DEBIAN/triggers"),
         (f"libcms-canon-dev_{VERSION}-1_amd64.deb", f"ln -sf elsewhere {LIBRARIES}/libcms_canon.so"),
     ):
@@ -135,7 +135,7 @@ def test_install(tally, tmp_path):
         # All packages for Debian are installed at once, verified by dpkg, and purged.
         done = machine.run("sudo apt-get install ./dist/packages/*_amd64.deb ./dist/packages/*_all.deb")
         tally.count("all packages at once", why_failed(done))
-        verified = machine.run(f"dpkg --verify {' '.join(DEBIAN)}\n/sbin/ldconfig -p | grep -c libcms_canon.so.0")
+        verified = machine.run(f"dpkg --verify {' '.join(DEBIAN)}\n/sbin/ldconfig -p | grep -c libcms_canon.so.1")
         tally.count("dpkg --verify", why_failed(verified) or differing("1\n", verified.output))
         modules = f"/{MODULES}/cms_canon"
         compiled = machine.run(f"ls {modules}/__pycache__/__init__.*.pyc {modules}_archive/__pycache__/command.*.pyc")
@@ -165,7 +165,7 @@ def test_debian_13(tally, tmp_path):
         machine = Debian(tmp_path, suite="trixie")
     except OSError as error:
         pytest.skip(f"there is no such machine: {error}")
-    names = {"libcms-canon0": "amd64", "python3-cms-canon": "amd64", "cms-canon-archive": "all"}
+    names = {"libcms-canon1": "amd64", "python3-cms-canon": "amd64", "cms-canon-archive": "all"}
     files = " ".join(f"./dist/packages/{name}_{VERSION}-1_{it}.deb" for name, it in names.items())
     done = machine.run_as_root(f"apt-get install {files}")
     tally.count("Debian 13/the packages", why_failed(done))

@@ -28,9 +28,8 @@ import accounts
 import assembly
 import countersignatures
 import generated_messages
-import openssl_tokens
+import messages_of_tools
 import pytest
-import real_messages
 from accounts import Account, Copy, Literal, Wrong, account_in
 from c_library import Library
 from elements import ID_SIGNED_DATA, element, element_at, message as message_of
@@ -156,37 +155,19 @@ def not_restored(package, der, account):
 
 
 def test_tools(calls, package, tools, tally):
-    """What openssl and gpgsm make."""
-    made = openssl_tokens.make_all(tools)
-    judge_real(tally, calls, package, ((it.name, it.octets) for it in real_messages.all_messages(tools, tally)))
-    kinds = ("request", "response", "token")
-    judge_real(tally, calls, package, ((f"{name}, {it}", getattr(token, it)) for name, token in made.items() for it in kinds))
+    judge_real(tally, calls, package, messages_of_tools.of_openssl_and_gpgsm(tools, tally))
 
 
 def test_countersignatures(calls, package, tools, tally):
-    """What BouncyCastle makes, and other spellings of it."""
-    if missing := countersignatures.missing_for_java():
-        return tally.skip("BouncyCastle", f"{', '.join(missing)} not installed")
-    countersignatures.make_keys(tools)
-    countersignatures.build_java(tools)
-    random, plans = Random(generated_messages.SEED), [*countersignatures.plans()]
-    made = countersignatures.bouncy_castle(tools, "make", [f"{form} {signers}" for _, form, signers in plans])
-    for (name, form, _), octets in zip(plans, map(bytes.fromhex, made)):
-        for given in (octets, *countersignatures.spellings_of(octets, random)):
-            judge(tally, calls, package, f"{name}, {form}", given)
+    for name, octets, _ in messages_of_tools.of_bouncy_castle(tools, tally):
+        judge(tally, calls, package, name, octets)
 
 
-def test_generated(calls, package, tally, monkeypatch):
-    monkeypatch.setattr(generated_messages, "LONG_CONTENT", 5_000)
-    random, overlaps = generated_messages.beginning(), 0
-    makers = [generated_messages.signed_message] * 2 + [generated_messages.request, generated_messages.response]
-    for index in range(MESSAGES // SPELLINGS):
-        message, *_ = random.choice(makers)(random)
-        spellings = [message.ber(random) for _ in range(SPELLINGS - 1)]
-        for given in (*spellings, message.der()):
-            if judge(tally, calls, package, f"message {index}", given) is not None:
-                overlaps += has_overlap(package, given)
-        judge(tally, calls, package, f"message {index}, damaged", generated_messages.damaged(random, spellings[0]))
+def test_generated(calls, package, tally):
+    overlaps = 0
+    for name, octets in messages_of_tools.at_random(MESSAGES, SPELLINGS):
+        if judge(tally, calls, package, name, octets) is not None:
+            overlaps += has_overlap(package, octets)
     tally.count("pieces that have octets in common", "" if overlaps > 100 else f"only in {overlaps} messages")
 
 

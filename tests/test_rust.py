@@ -61,7 +61,7 @@ def comparisons(asked):
 
 def test_crate(target, tally, tmp_path):
     """Runs the tests of the crate, which make the requests of a file."""
-    asked = asked_of(requests(), "part", "pieces")
+    asked = asked_of(requests(), "pieces")
     lines = [*((request, wanted) for _, request, wanted in asked), *comparisons(asked)]
     (tmp_path / "requests").write_text("".join(f"{request}\n{wanted}\n" for request, wanted in lines))
     ended = run(["cargo", "test", "--offline", "--no-fail-fast"], target, CMS_CANON_REQUESTS=tmp_path / "requests")

@@ -184,7 +184,8 @@ _IS_SIGNED = sa.func.coalesce(FILES.c.kind, "").not_in(_UNSIGNED)
 
 def _is_doubted(doubts: Sequence[str]) -> Any:
     """Returns the condition that the note of a row in `FILES` has one of these doubts."""
-    return sa.or_(*(sa.func.coalesce(FILES.c.note, "").contains(it) for it in doubts))
+    note = sa.func.coalesce(FILES.c.note, "")
+    return (note != "") & sa.or_(*(note.contains(it) for it in doubts))  # few rows have a note
 
 
 _IS_OLDER = sa.func.coalesce(FILES.c.reader, 0) != READER  # read by a release that may have seen something else
@@ -211,8 +212,8 @@ def checked(store: Store, all_of_them: bool, filters: Filters = ALL) -> Iterator
     is_message, outcome = FILES.c.what == Class.MESSAGE.value, _outcome()
     of_message = of_same_place(PLACE_TIMES, FILES) & (PLACE_TIMES.c.state == State.DIFFERS.value)
     wrong = sa.select(sa.func.count()).select_from(PLACE_TIMES).where(of_message).correlate(FILES).scalar_subquery()
-    is_well = (outcome == int(Outcome.FITS)) & (sa.func.coalesce(FILES.c.findings, "") == "")
-    asked = is_message if all_of_them else is_message & (_IS_SIGNED | (outcome != int(Outcome.FITS))) & sa.not_(is_well)
+    breaks = _IS_SIGNED & (sa.func.coalesce(FILES.c.findings, "") != "")
+    asked = is_message if all_of_them else is_message & (breaks | (outcome != int(Outcome.FITS)))
     rows = sa.select(*shown(FILES), wrong.label("wrong_times"), outcome.label("outcome")).where(asked).order_by(FILES.c.path, FILES.c.member)
     return store.asked(filters.of(rows, FILES))
 

@@ -11,7 +11,7 @@ _cms_canon() {
         1:*) words='convert show changes check cover same help --help --version' ;;
         2:help:*) words='convert show changes check cover same' ;;
         *:convert:-*) words='--many --help' ;;
-        *:show:-*) words='--help' ;;
+        *:show:-*) words='--json --help' ;;
         *:changes:-*) words='--json --help' ;;
         *:check:-*) words='--content --data --help' ;;
         *:cover:*) words='--signer --content --help' ;;

@@ -12,7 +12,7 @@ complete -c cms-canon -n '__fish_seen_subcommand_from help; and not __fish_seen_
 complete -c cms-canon -n __fish_use_subcommand -l version -d 'Print the version'
 complete -c cms-canon -n '__fish_seen_subcommand_from cover' -x -l signer -d 'The number of the signer, in the order read, from 0'
 complete -c cms-canon -n '__fish_seen_subcommand_from convert' -l many -d 'Read messages to the end of the input, and write the DER of each'
-complete -c cms-canon -n '__fish_seen_subcommand_from changes' -l json -d 'Write one JSON object in place of lines'
+complete -c cms-canon -n '__fish_seen_subcommand_from show changes' -l json -d 'Write one JSON object in place of lines'
 complete -c cms-canon -n '__fish_seen_subcommand_from check cover' -l content -d 'Take what follows the message as its content'
 complete -c cms-canon -n '__fish_seen_subcommand_from check' -l data -d 'Take what follows the message as the time-stamped data'
 complete -c cms-canon -l help -d 'Print help'

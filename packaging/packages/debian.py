@@ -1,7 +1,7 @@
 """The packages for Debian, by dpkg-deb. What each is and depends on is in packaging/debian/NAME.control.
 
 They are not made by debhelper, since what is packed was proved and built elsewhere. Those for amd64 depend on `sse4.2-support`, which refuses
-processors older than x86-64-v2. `python3-cms-canon` has a link to the library of `libcms-canon0`, and no copy, so that one library in a
+processors older than x86-64-v2. `python3-cms-canon` has a link to the library of `libcms-canon1`, and no copy, so that one library in a
 system is updated once. What `cms-canon-archive` imports at its start is in its Depends.
 """
 
@@ -21,7 +21,14 @@ from .tools import run
 
 REVISION = "1"  # of what is packaged, for the same version
 PYTHON = "usr/lib/python3/dist-packages"
-SONAME = "libcms_canon.so.0"
+SONAME = "libcms_canon.so.1"
+EXAMPLES_IN_C = ("examples/check.c", "examples/example.c", "examples/fields.c", "examples/recipes/verify_with_openssl.c", "examples/message.ber")
+README_AND_DOCS = {  # of each package: the folder of the repository, and its documents
+    "cms-canon": ("", ["README.md", "docs/*.md"]),
+    "cms-canon-archive": ("archive", ["README.md", "docs/*.md"]),
+    "libcms-canon-dev": ("examples", ["README.md"]),
+    "python3-cms-canon": ("bindings/python", ["README.md"]),
+}
 CONTROL_FILES = ("postinst", "prerm", "shlibs", "symbols", "triggers")
 COMMAND = """\
 #!/usr/bin/python3
@@ -68,11 +75,18 @@ def library(release: Release) -> Iterable[Entry]:
 
 
 def development(release: Release) -> Iterable[Entry]:
-    """Yields what a program in C is compiled and linked with."""
+    """Yields what a program in C is compiled and linked with, the manual pages of the calls, and examples."""
     yield File("usr/include/cms_canon.h", release.octets_of("cms_canon.h"))
     yield File(f"{libraries(release)}/libcms_canon.a", release.octets_of("libcms_canon.a"))
     yield Link(f"{libraries(release)}/libcms_canon.so", SONAME)
     yield File(f"{libraries(release)}/pkgconfig/cms_canon.pc", pkg_config(release))
+    of_cmake = f"{libraries(release)}/cmake/cms_canon"
+    yield File(f"{of_cmake}/cms_canon-config.cmake", (TOP / "bindings" / "c" / "cms_canon-config.cmake").read_bytes())
+    yield File(f"{of_cmake}/cms_canon-config-version.cmake", manual(release, "bindings/c/cms_canon-config-version.cmake.in"))
+    for page in sorted((TOP / "docs" / "man").glob("*.3")):
+        yield File(f"usr/share/man/man3/{page.name}.gz", gzipped(manual(release, f"docs/man/{page.name}")))
+    for program in EXAMPLES_IN_C:
+        yield File(f"usr/share/doc/libcms-canon-dev/examples/{Path(program).name}", (TOP / program).read_bytes())
 
 
 def pkg_config(release: Release) -> bytes:
@@ -86,7 +100,7 @@ def pkg_config(release: Release) -> bytes:
 
 
 def python(release: Release) -> Iterable[Entry]:
-    """Yields the package for Python, over the library of libcms-canon0."""
+    """Yields the package for Python, over the library of libcms-canon1."""
     for file in [*modules(BINDING, release), *about(BINDING, release)]:
         yield file._replace(name=f"{PYTHON}/{file.name}")
     yield Link(f"{PYTHON}/cms_canon/libcms_canon.so", f"../../../{release.target.libraries}/{SONAME}")
@@ -102,7 +116,7 @@ def archive(release: Release) -> Iterable[Entry]:
 
 
 def java(jar: bytes, release: Release) -> Iterable[Entry]:
-    """Yields the jar without the library, which JNA finds in that of libcms-canon0."""
+    """Yields the jar without the library, which JNA finds in that of libcms-canon1."""
     yield File(f"usr/share/java/cms-canon-{release.version}.jar", jar)
     yield Link("usr/share/java/cms-canon.jar", f"cms-canon-{release.version}.jar")
 
@@ -111,7 +125,7 @@ def all_packages(jar: bytes) -> List[Package]:
     """Returns the packages; that for Java has this jar."""
     return [
         Package("cms-canon", command),
-        Package("libcms-canon0", library),
+        Package("libcms-canon1", library),
         Package("libcms-canon-dev", development),
         Package("python3-cms-canon", python),
         Package("cms-canon-archive", archive, is_for_all=True),
@@ -144,6 +158,9 @@ def documents(name: str) -> Iterable[File]:
     yield File(f"{folder}/copyright", copyright_file())
     yield File(f"{folder}/changelog.Debian.gz", gzipped(changelog()))
     yield File(f"{folder}/changelog.gz", gzipped((TOP / "CHANGELOG.md").read_bytes()))
+    of_repository, patterns = README_AND_DOCS.get(name, ("", []))
+    for path in (it for pattern in patterns for it in sorted((TOP / of_repository).glob(pattern))):
+        yield File(f"{folder}/{path.relative_to(TOP / of_repository).as_posix()}", path.read_bytes())
 
 
 def architecture(package: Package, release: Release) -> str:

@@ -22,7 +22,8 @@ def compiled(release: Release, work: Path) -> List[File]:
     """Returns the classes."""
     folder = work / "classes"
     files = sorted(SOURCES.rglob("*.java"))
-    words = ["javac", "--release", "17", "-encoding", "UTF-8", "-Xlint:all", "-Werror", "-cp", JNA, "-d", folder, *files]
+    lint = "-Xlint:all,-requires-automatic"  # JNA is a module by its name alone
+    words = ["javac", "--release", "17", "-encoding", "UTF-8", lint, "-Werror", "-p", JNA, "-d", folder, *files]
     run(words, release.epoch)
     return [*files_below(folder)]
 
@@ -33,7 +34,7 @@ def documented(release: Release, work: Path) -> List[File]:
     locale = ["-locale", "en", "-encoding", "UTF-8", "-docencoding", "UTF-8", "-charset", "UTF-8"]
     words = ["javadoc", "-quiet", "-notimestamp", *locale, "-Xdoclint:all", "-Werror", "-Xmaxwarns", "1000", "-cp", JNA]
     named = ["-windowtitle", f"cms-canon {release.version}", "-doctitle", f"cms-canon {release.version}"]
-    run([*words, *named, "-sourcepath", SOURCES, "-d", folder, "cmscanon"], release.epoch)
+    run([*words, *named, "-d", folder, *sorted((SOURCES / "cmscanon").glob("*.java"))], release.epoch)
     return [*files_below(folder)]
 
 
@@ -41,7 +42,6 @@ def manifest(release: Release) -> File:
     """Returns the manifest of a jar, whose lines end in CR LF."""
     lines = [
         "Manifest-Version: 1.0",
-        "Automatic-Module-Name: cmscanon",
         "Implementation-Title: cms-canon",
         f"Implementation-Version: {release.version}",
     ]

@@ -7,7 +7,6 @@
  *     read LIMIT INPUT                            how many octets the messages have that `many` converts
  *     extent LIMIT INPUT                          how far the first element reaches, asked for at each octet that comes
  *     cover LIMIT INPUT PATH CONTENT              PATH is numbers joined by commas, as 0,1; CONTENT is - if none is given
- *     part LIMIT INPUT PATH PART
  *     show LIMIT INPUT
  *     same LIMIT INPUT INPUT
  *     check LIMIT INPUT CONTENT DATA VERDICT      VERDICT is that on each signature: good, bad or unknown
@@ -21,7 +20,6 @@
  * the line that the command writes, as `3 refused E6 Overrun at 4`.
  */
 #define _GNU_SOURCE
-#define CMS_CANON_DEPRECATED /* cms_canon_part is asked as long as it is there */
 #include <cms_canon.h>
 #include <inttypes.h>
 #include <pthread.h>
@@ -96,14 +94,6 @@ static void convert(const struct request *it, uint8_t *output, size_t room, stru
 static void show(const struct request *it, uint8_t *output, size_t room, struct cms_canon_outcome *outcome)
 {
     cms_canon_show(it->input.at, it->input.length, it->limit, output, room, outcome);
-}
-
-static void part(const struct request *it, uint8_t *output, size_t room, struct cms_canon_outcome *outcome)
-{
-    struct path path = path_of(it->more[0]);
-    uint32_t number = (uint32_t)strtoul(it->more[1], NULL, 10);
-    cms_canon_part(it->input.at, it->input.length, path.at, path.length, number, it->limit, output, room, outcome);
-    free(path.at);
 }
 
 /* Octets, or none for the word -. */
@@ -268,7 +258,7 @@ static void *answer(void *request)
     static const struct {
         const char *name;
         written *call;
-    } calls[] = {{"convert", convert}, {"cover", cover}, {"part", part}, {"show", show}};
+    } calls[] = {{"convert", convert}, {"cover", cover}, {"show", show}};
     for (size_t i = 0; i < sizeof calls / sizeof calls[0]; i++)
         if (strcmp(it->call, calls[i].name) == 0)
             answer_octets(it, calls[i].call);

@@ -1,10 +1,9 @@
 /*
- * Checks of the calls of the library for C that the vectors do not make: rooms that are too small, messages one after another,
- * extents, octets, findings, rows, pieces and changes around the output, lengths of 0, limits, paths, parts, fields, digests, and four
- * threads at once.
+ * Checks of the calls of the library for C that the vectors do not make: the release, texts, rooms that are too small, messages
+ * one after another, extents, octets, findings, rows, pieces and changes around the output, lengths of 0, limits, paths, fields, digests,
+ * and four threads at once.
  * Prints a line for each failed check, and how many passed and failed.
  */
-#define CMS_CANON_DEPRECATED /* cms_canon_part is checked as long as it is there */
 #include <cms_canon.h>
 #include <pthread.h>
 #include <stdio.h>
@@ -115,40 +114,22 @@ static void check_paths(void)
     check_path("the countersignature with the greatest number", last_of_0, 2, -1);
 }
 
-/* A part of the countersigned message is these octets, or there is no such part for this reason. */
-static void check_part(const char *what, const uint64_t *path, size_t length, uint32_t part, const char *octets, uint32_t reason)
+/* The release of the library is that of the header, as one number and as a string, and the texts are those of their numbers alone. */
+static void check_version_and_texts(void)
 {
-    uint8_t output[16];
-    struct cms_canon_outcome outcome;
-    memset(output, GUARD, sizeof output);
-    cms_canon_part(countersigned, sizeof countersigned, path, length, part, CMS_CANON_LIMIT, output, sizeof output, &outcome);
-    if (reason == 0)
-        check(what, outcome.status == CMS_CANON_DONE && outcome.octets == strlen(octets)
-                        && memcmp(output, octets, strlen(octets)) == 0 && is_all(output, strlen(octets), sizeof output, GUARD));
-    else
-        check(what, outcome.status == CMS_CANON_REFUSED && outcome.reason == reason && outcome.at == 0 && outcome.octets == 0
-                        && is_all(output, 0, sizeof output, GUARD));
+    char version[16];
+    unsigned number = CMS_CANON_VERSION_NUMBER;
+    snprintf(version, sizeof version, "%u.%u.%u", number / 10000, number / 100 % 100, number % 100);
+    check("the release as a string", strcmp(version, CMS_CANON_VERSION) == 0);
+    check("the release of the library", cms_canon_version() == CMS_CANON_VERSION_NUMBER);
+    check("the first finding", strcmp(cms_canon_finding_text(1), "version does not follow the version rule") == 0);
+    check("the last finding", strcmp(cms_canon_finding_text(19), "token does not fit the status") == 0);
+    check("no finding", strcmp(cms_canon_finding_text(0), "unknown finding") == 0 && cms_canon_finding_text(20) == cms_canon_finding_text(0));
+    check("the first reason", strncmp(cms_canon_reason_text(1), "The input ends before the message does.", 39) == 0);
+    check("the last refusal", strncmp(cms_canon_reason_text(19), "Countersignatures are nested", 28) == 0);
+    check("a reason of no refusal", strncmp(cms_canon_reason_text(CMS_CANON_NEEDS_CONTENT), "The detached content", 20) == 0);
+    check("no reason", strcmp(cms_canon_reason_text(0), "unknown reason") == 0 && strcmp(cms_canon_reason_text(104), "unknown reason") == 0);
 }
-
-static void check_parts(void)
-{
-    static const uint64_t zeros[3];
-    const uint32_t none[] = {0, CMS_CANON_SIGNATURE_PARAMETERS, CMS_CANON_DIGEST_PARAMETERS, CMS_CANON_ISSUER,
-                             CMS_CANON_SERIAL_NUMBER, CMS_CANON_CERTIFICATE, 10, UINT32_MAX};
-    check_part("a signature", zeros, 1, CMS_CANON_SIGNATURE, "\xaa", 0);
-    check_part("that of a countersignature", zeros, 2, CMS_CANON_SIGNATURE, "\xcc", 0);
-    check_part("a signature algorithm", zeros, 1, CMS_CANON_SIGNATURE_ALGORITHM, "\x2a\x03\x04", 0);
-    check_part("a digest algorithm", zeros, 1, CMS_CANON_DIGEST_ALGORITHM, "\x2a\x03\x04", 0);
-    check_part("a key identifier", zeros, 1, CMS_CANON_SUBJECT_KEY_IDENTIFIER, "\x11", 0);
-    check_part("that of a countersignature", zeros, 2, CMS_CANON_SUBJECT_KEY_IDENTIFIER, "\x33", 0);
-    for (size_t i = 0; i < sizeof none / sizeof none[0]; i++)
-        check_part("no such part", zeros, 1, none[i], "", CMS_CANON_NO_PART);
-    check_part("a part of no signer", zeros, 3, CMS_CANON_SIGNATURE, "", CMS_CANON_NO_SIGNER);
-    check_part("a part at an empty path", zeros, 0, CMS_CANON_SIGNATURE, "", CMS_CANON_NO_SIGNER);
-    check_part("a certificate at an empty path", zeros, 0, CMS_CANON_CERTIFICATE, "", CMS_CANON_NO_PART);
-    check_part("a certificate of a signer", zeros, 2, CMS_CANON_CERTIFICATE, "", CMS_CANON_NO_PART);
-}
-
 static void check_findings(void)
 {
     struct cms_canon_finding findings[6], guards[6];
@@ -616,7 +597,7 @@ int main(void)
     check_rooms();
     check_refusals();
     check_paths();
-    check_parts();
+    check_version_and_texts();
     check_findings();
     check_digests_asked();
     check_digests();

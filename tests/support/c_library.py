@@ -98,7 +98,3 @@ class Library:
     def list_changes(self, octets, json=False, limit=LIMIT, room=None):
         room = 300 * len(octets) + 1000 if room is None else room
         return self.asked("list_changes", room, *words_of(octets), ctypes.c_bool(json), ctypes.c_uint64(limit))
-
-    def part(self, octets, path, number):
-        words = *words_of(octets), *path_of(path), ctypes.c_uint32(number), ctypes.c_uint64(LIMIT)
-        return self.asked("part", len(octets), *words)

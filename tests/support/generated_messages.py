@@ -15,7 +15,7 @@ import re
 from collections import Counter, namedtuple
 from random import Random
 
-from elements import ID_SIGNED_DATA, element, length
+from elements import ID_CT_TST_INFO, ID_SIGNED_DATA, element, length
 
 SEED = 5652
 MOST_LEVELS = 8  # constructed encodings of a string inside one another
@@ -341,6 +341,41 @@ def response(random):
     if random.random() < 0.5:
         return Sequence(info), None, []
     return Sequence(info, token), detached, covers
+
+
+# ---- tokens
+
+def any_time(random):
+    """Returns a time in DER, or a text that is nearly one, and whether it is one."""
+    year, month, day = random.choice((0, 1, 1970, random.randrange(10000))), random.randint(1, 13), random.randint(1, 28)
+    second, hour = random.choice((0, 59, 59, 60)), random.randrange(25)
+    fraction = "".join(random.choices("0123456789", k=random.choice((0, 0, 1, 6, 7, 20))))
+    text = f"{year:04}{month:02}{day:02}{hour:02}{random.randrange(60):02}{second:02}{f'.{fraction}' if fraction else ''}Z"
+    return text, month <= 12 and hour <= 23 and second <= 59 and not fraction.endswith("0")
+
+
+def any_tst_info(random):
+    """Returns a TSTInfo in DER, or octets that are nearly one, and whether it is one."""
+    time, is_time = any_time(random)
+    numbers = {0x02: random.choice((0, 1, 1 << 70)), 0x80: random.choice((1, 999, 0, 1000)), 0x81: random.choice((1, 500, 999))}
+    there = {identifier: number for identifier, number in numbers.items() if random.random() < 0.5}
+    parts = [Primitive(it, number.to_bytes(number.bit_length() // 8 + 1, "big")) for it, number in there.items()]
+    accuracy, is_accuracy = (Sequence(*parts), there.get(0x80, 1) in range(1, 1000)) if random.random() < 0.5 else (None, True)
+    imprint = Sequence(algorithm(random), OctetString(octets(random, 64)))
+    policy = identifier_of_an_object(random)
+    fields = [integer(random), policy, imprint, integer(random), Primitive(0x18, time.encode()), accuracy]
+    fields += [TrueOrAbsent(random.random() < 0.5), sometimes(random, lambda: integer(random))]
+    fields += [sometimes(random, lambda: any_opaque(random, it)) for it in (0xA0, 0xA1)]
+    return Sequence(*fields).der(), is_time and is_accuracy
+
+
+def any_token(random):
+    """Returns a token, its detached content or None, and what its signers cover, which is not looked at."""
+    message, _, covers = signed_message(random)
+    encapsulated = message.parts[1].parts[0].parts[2]
+    content, _ = any_tst_info(random)
+    encapsulated.parts = [Primitive(0x06, ID_CT_TST_INFO[2:]), Sequence(OctetString(content), identifier=0xA0)]
+    return message, None, covers
 
 
 # ---- faults

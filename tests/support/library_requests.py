@@ -9,7 +9,7 @@ from elements import element, message as message_of
 from field_lines import word as word_of
 from generated_messages import COUNTERSIGNATURE, beginning, due, signed_message
 from programs import LIMIT_OF_VECTORS, line_of, octets_of, read_vectors
-from walk import countersignatures_of, fields_of, parts_of
+from walk import countersignatures_of, fields_of
 
 MESSAGES = 40  # made at random
 RUNS = 10  # of some of them, one after another
@@ -132,17 +132,11 @@ def job(signer, certificates):
 
 
 def requests_of_signers(der, detached):
-    """Gives what is asked of each signer of a message in DER, and at each path below it: the cover and the parts, by request."""
+    """Gives what is asked of each signer of a message in DER, and at each path below it: the cover, by request."""
     _, _, signed_data = fields_of(der, detached)
     certificates = signed_data["certificates"] or []
     for path, signer in signers_below(signed_data["signers"], []):
         yield cover_request(der, path, detached), f"0 {signer['covered'].hex()}" if signer else "3 refused: no such signer"
-        words = ",".join(map(str, path))
-        for number, octets in parts_of(signer) if signer else [(1, None)]:
-            lack = "no such part" if signer else "no such signer"
-            yield request("part", der, words, str(number)), f"3 refused: {lack}" if octets is None else f"0 {octets.hex()}"
-    for number, octets in enumerate([*certificates, None]):
-        yield request("part", der, str(number), "9"), "3 refused: no such part" if octets is None else f"0 {octets.hex()}"
     yield request("jobs", der, word_of(detached)), " ".join(["0", *(job(it, certificates) for it in signed_data["signers"])])
 
 
@@ -204,8 +198,6 @@ def requests_of_deep_messages():
         yield request("check", message, message.hex(), message.hex(), "unknown")
         for path in ("0", "0,0", "0,0,0,0,0"):
             yield request("cover", message, path, "-")
-            yield from (request("part", message, path, str(part)) for part in (1, 3))
-        yield request("part", message, "0", "9")
 
 
 def asked_of(asked, *others):

@@ -3,7 +3,7 @@
 
     python3 tests/support/one_call.py LIBRARY CALL MESSAGE TST_INFO
 
-MESSAGE and TST_INFO are files. No content and no data are given, the path is 0, the part is 1, an extent is that of a first call, and there is room
+MESSAGE and TST_INFO are files. No content and no data are given, the path is 0, an extent is that of a first call, and there is room
 for 4,096 members.
 """
 
@@ -14,7 +14,7 @@ from pathlib import Path
 
 sys.path.insert(0, str(Path(__file__).resolve().parents[2] / "scripts"))
 
-from calls import calls  # noqa: E402
+from calls import called  # noqa: E402
 
 ROOM, LARGEST = 4096, 128  # members of an array; octets of a member, or of an outcome
 FILL = b"\xa5" * (ROOM * LARGEST)
@@ -60,7 +60,7 @@ def status_of(call, outcome):
 
 
 def main(library, name, *files):
-    call = next(it for it in calls() if it.name == name)
+    call = next(it for it in called() if it.name == name)
     outcome, outputs = made(ctypes.CDLL(library), call, *(Path(it).read_bytes() for it in files))
     status, wrote = status_of(call, outcome), any(it != FILL for it in outputs)
     print(status, hashlib.sha256(b"".join([outcome, *outputs])).hexdigest() if wrote or status == 0 else "nothing")

@@ -9,7 +9,6 @@ from datetime import datetime, timezone
 from pathlib import Path
 from typing import NamedTuple
 
-from elements import contents_of, oid
 
 HEADER = Path(__file__).resolve().parents[2] / "bindings" / "c" / "cms_canon.h"
 KINDS = {name: int(number, 16) for name, number in re.findall(r"\bCMS_CANON_KIND_(\w+) = (0x..)\b", HEADER.read_text())}
@@ -61,14 +60,6 @@ def bits_of(contents):
 
 def countersignatures_of(signer):
     return [it for attribute in signer["unsigned_attributes"] or [] for it in attribute["countersignatures"]]
-
-
-def parts_of(signer):
-    """Returns the number of each part of a signer that `cms_canon_part` writes, and its octets or None."""
-    number, algorithms = signer["serial_number"], (signer["signature_algorithm"], signer["digest_algorithm"])
-    of_algorithms = [octets for it in algorithms for octets in (contents_of(oid(it["oid"])), it["parameters"])]
-    serial = None if number is None else contents_of_integer(number)
-    return [*enumerate([signer["signature"], *of_algorithms, signer["issuer"], serial, signer["subject_key_identifier"]], 1)]
 
 
 class Walk:

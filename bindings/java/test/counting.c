@@ -1,5 +1,5 @@
 /*
- * Loaded as libcms_canon.so in front of the real one, which is named libcms_canon.so.0: counts calls of some of its functions.
+ * Loaded as libcms_canon.so in front of the real one, which is named libcms_canon.so.1: counts calls of some of its functions.
  */
 #define _GNU_SOURCE
 #include "cms_canon.h"

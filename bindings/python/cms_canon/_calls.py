@@ -12,7 +12,6 @@ import mmap
 import operator
 import os
 import struct
-from pathlib import Path
 from typing import Any, List, NamedTuple, Optional, Tuple, Union
 
 from ._prototypes import PROTOTYPES
@@ -74,23 +73,23 @@ _TYPES = {  # of the arguments, as the header has them
 
 
 
-def _path_of_library() -> Path:
+def _path_of_library() -> str:
     """Where the library is: beside this file in what was installed, or in `dist/` of a clone of the repository."""
-    own = Path(__file__).with_name(_LIBRARY)
-    try:
-        in_clone = Path(__file__).resolve().parents[3] / "dist" / f"{os.uname().machine}-linux" / _LIBRARY
-    except IndexError:
-        return own
-    return in_clone if in_clone.exists() and not own.exists() else own
+    folder = os.path.dirname(os.path.abspath(__file__))
+    own = os.path.join(folder, _LIBRARY)
+    clone = os.path.normpath(os.path.join(os.path.realpath(folder), "..", "..", ".."))
+    in_clone = os.path.join(clone, "dist", f"{os.uname().machine}-linux", _LIBRARY)
+    return in_clone if os.path.exists(in_clone) and not os.path.exists(own) else own
 
 
 def _opened() -> ctypes.CDLL:
     path = _path_of_library()
-    if not path.exists():
-        hint = "python3 -m pip install --no-index bindings/python" if (path.parents[1] / "pyproject.toml").exists() else "python3 -m pip install --force-reinstall cms-canon"
+    if not os.path.exists(path):
+        is_source = os.path.exists(os.path.join(os.path.dirname(path), "..", "pyproject.toml"))
+        hint = "python3 -m pip install --no-index bindings/python" if is_source else "python3 -m pip install --force-reinstall cms-canon"
         raise ImportError(f"{path} is not there: cms_canon was copied without its library, which `{hint}` installs")
     try:
-        return ctypes.CDLL(str(path))
+        return ctypes.CDLL(path)
     except OSError as why:
         raise ImportError(f"{path} cannot be loaded on this machine ({os.uname().sysname} on {os.uname().machine}): {why}") from None
 

@@ -5,7 +5,6 @@ The library says which digests a message asks for. What is digested is not kept.
 
 from __future__ import annotations
 
-import hashlib
 import io
 import struct
 from collections.abc import Iterable as Pieces
@@ -107,6 +106,8 @@ def joined(document: Document, limit: int) -> bytes:
 
 def digests_of(document: Document, algorithms: Sequence[int]) -> bytes:
     """Returns the digests of a document by these algorithms, as C has them. If there are any, the document is read to its end, once."""
+    import hashlib  # which takes as long as all of this package
+
     hashers = {it: hashlib.new(_ALGORITHMS[it - 1]) for it in algorithms}
     for piece in _pieces_of(document) if hashers else ():
         for hasher in hashers.values():

@@ -10,7 +10,6 @@ two differs.
 
 from __future__ import annotations
 
-import json
 import re
 from datetime import datetime, timezone
 from functools import cached_property
@@ -718,6 +717,8 @@ class Message(Part):
 
     def to_json(self) -> str:
         """Returns the text in JSON of what `to_dict` returns."""
+        import json
+
         return json.dumps(self.to_dict())
 
     def __repr__(self) -> str:

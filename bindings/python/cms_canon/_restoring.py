@@ -6,7 +6,6 @@ An account says how the message differs from its DER. docs/FORMATS.md says what 
 from __future__ import annotations
 
 import struct
-from hashlib import sha256
 from io import BytesIO
 from typing import Iterator, List, NamedTuple, Optional, Tuple
 
@@ -80,6 +79,12 @@ def pieces(data: Octets, limit: int = LIMIT) -> List[Piece]:
     return [Piece(place, length, made == 1) for place, length, made in _pieces_in(octets_of(data), limit_of(limit))]
 
 
+def _sha256(octets: bytes) -> bytes:
+    from hashlib import sha256  # which takes as long as all of this package
+
+    return sha256(octets).digest()
+
+
 def account(data: Octets, limit: int = LIMIT) -> bytes:
     """Returns an account of the one message in `data`: octets from which, with the DER of the message, `restore` returns it again.
 
@@ -94,7 +99,7 @@ def account(data: Octets, limit: int = LIMIT) -> bytes:
     """
     octets, most = octets_of(data), limit_of(limit)
     der = _der_of(octets, most)
-    head = (_BEGINNING, sha256(octets).digest(), sha256(der).digest(), _number(len(octets)))
+    head = (_BEGINNING, _sha256(octets), _sha256(der), _number(len(octets)))
     made = b"".join((*head, *_instructions(octets, _copies(octets, most))))
     restore(der, made, most)
     return made
@@ -116,10 +121,10 @@ def restore(der: Octets, account: Octets, limit: int = LIMIT) -> bytes:
             raise NotRestored(f"{what} has {count} octets, and the limit is {most}")
     if length > len(encoding) + len(read.octets):
         raise NotRestored(f"the original has {length} octets, more than the DER and the account together")
-    if sha256(encoding).digest() != of_der:
+    if _sha256(encoding) != of_der:
         raise NotRestored("the DER is not the one that the account was made from")
     octets = read.given_by(memoryview(encoding), length)
-    if sha256(octets).digest() != of_original:
+    if _sha256(octets) != of_original:
         raise NotRestored("what comes is not the original: its SHA-256 is another one")
     if not _is_der_of(encoding, octets, most):
         raise NotRestored("what comes is no message that has this DER")

@@ -309,6 +309,13 @@ class Imports(unittest.TestCase):
     def test_what_is_public(self):
         self.assertEqual(dir(cms_canon), sorted(cms_canon.__all__))
 
+    def test_what_an_import_loads(self):
+        """An import takes no module that it can do without, since each takes as long as the package itself."""
+        code = "import sys; sys.path.insert(0, sys.argv[1]); import cms_canon; print(*sorted({*sys.argv[2:]} & {*sys.modules}))"
+        slow = ("asyncio", "cryptography", "dataclasses", "hashlib", "inspect", "json", "pathlib", "subprocess", "urllib")
+        words = [sys.executable, "-I", "-S", "-c", code, str(Path(cms_canon.__file__).parents[1]), *slow]
+        self.assertEqual(subprocess.run(words, check=True, capture_output=True, text=True).stdout, "\n")
+
     def test_a_library_that_is_not_there(self):
         """It is found in `dist` of a clone; a copy of the modules alone says what to do."""
         script = "import cms_canon; print(len(cms_canon.convert(bytes.fromhex(input()))))"
@@ -1102,9 +1109,9 @@ class Accounts(unittest.TestCase):
 
         def changing(octets):
             given[:], account[:] = bytes(len(given)), bytes(len(account))
-            return sha256(octets)
+            return sha256(octets).digest()
 
-        with mock.patch.object(_restoring, "sha256", changing):
+        with mock.patch.object(_restoring, "_sha256", changing):
             self.assertEqual(cms_canon.restore(given, account), MESSAGE)
 
     def test_four_at_once(self):

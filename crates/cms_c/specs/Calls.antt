@@ -30,7 +30,6 @@ use Rattle.cms_c.specs.declared.outcome.Lack.{Lack}
 use Rattle.cms_c.specs.declared.outcome.Lack.TheVariants as lacks
 use Rattle.cms_c.specs.declared.outcome.Outcome.{Outcome}
 use Rattle.cms_c.specs.Outcomes.{Says, SaysFault, SaysSameFault, SaysLack, IsDelivered}
-use Rattle.cms_c.specs.Parts.{part_at}
 
 --- `limit_of_c limit`: the limit, or 2^40 if it is larger
 abbrev pub limit_of_c : ℕ → ℕ
@@ -183,31 +182,26 @@ IsComparison first second limit o =
 abbrev pub Yields : {R : Type 0} → List ℕ → ℕ → (MessageValue → R) → R → Type 0
 Yields {R} input limit f r = (v : MessageValue) × IsAccepted input limit v × (f v ≡ r)
 
---- `LacksBy input limit f last l`: the input is refused, or it is an accepted message for which `f`
----   is none: no SignedData, no such signer,
---- | or the `last` reason
-abbrev pub LacksBy : List ℕ → ℕ → (MessageValue → Option (Option (Option (List ℕ)))) → Lack → Lack
-    → Type 0
-LacksBy input limit f last (lacks.Fault e) = FailsBy input limit e
-LacksBy input limit f last lacks.NoSignedData = Yields input limit f None
-LacksBy input limit f last lacks.NoSigner = Yields input limit f (Some None)
-LacksBy input limit f last e = (e ≡ last) × Yields input limit f (Some (Some None))
+--- `FailsToCover input limit path detached l`: the input is refused, or it is an accepted message
+---   with no cover at the path (`cover_at`):
+--- | no SignedData, no such signer, or no content
+abbrev pub FailsToCover : List ℕ → ℕ → List ℕ → Option (List ℕ) → Lack → Type 0
+FailsToCover input limit path detached (lacks.Fault e) = FailsBy input limit e
+FailsToCover input limit path detached lacks.NoSignedData =
+    Yields input limit (λ v. cover_at v path detached) None
+FailsToCover input limit path detached lacks.NoSigner =
+    Yields input limit (λ v. cover_at v path detached) (Some None)
+FailsToCover input limit path detached e =
+    (e ≡ lacks.NoContent)
+    × Yields input limit (λ v. cover_at v path detached) (Some (Some None))
 
---- `Lacks r last l`: `LacksBy` for a message that is known, of which `r` is what was looked for
-abbrev pub Lacks : Option (Option (Option (List ℕ))) → Lack → Lack → Type 0
-Lacks r last (lacks.Fault faults.OutOfMemory) = Unit {0}
-Lacks r last (lacks.Fault e) = ⊥
-Lacks r last lacks.NoSignedData = r ≡ None
-Lacks r last lacks.NoSigner = r ≡ Some None
-Lacks r last e = (e ≡ last) × (r ≡ Some (Some None))
-
---- `AreOctetsOf input limit f last before after o`: the octets that `f` is of an accepted message
----   are handed over
-abbrev pub AreOctetsOf : List ℕ → ℕ → (MessageValue → Option (Option (Option (List ℕ)))) → Lack
-    → List ℕ → List ℕ → Outcome → Type 0
-AreOctetsOf input limit f last =
-    IsHandedOver (λ octets. Yields input limit f (Some (Some (Some octets))))
-    (LacksBy input limit f last) SaysLack
+--- `Lacks r l`: `FailsToCover` for a message that is known, at whose path there is `r`
+abbrev pub Lacks : Option (Option (Option (List ℕ))) → Lack → Type 0
+Lacks r (lacks.Fault faults.OutOfMemory) = Unit {0}
+Lacks r (lacks.Fault e) = ⊥
+Lacks r lacks.NoSignedData = r ≡ None
+Lacks r lacks.NoSigner = r ≡ Some None
+Lacks r e = (e ≡ lacks.NoContent) × (r ≡ Some (Some None))
 
 --- `IsCoverOfInput input limit path detached octets`: they are the cover at the path, `cover_at`,
 ---   of a message that is accepted, and `CoversAttributes`
@@ -221,8 +215,4 @@ IsCoverOfInput input limit path detached octets =
 abbrev pub IsCover : List ℕ → ℕ → List ℕ → Option (List ℕ) → List ℕ → List ℕ → Outcome → Type 0
 IsCover input limit path detached =
     IsHandedOver (IsCoverOfInput input limit path detached)
-    (LacksBy input limit (λ v. cover_at v path detached) lacks.NoContent) SaysLack
-
---- `IsPartAt input limit path part before after o`: those of a part are (`part_at`)
-abbrev pub IsPartAt : List ℕ → ℕ → List ℕ → ℕ → List ℕ → List ℕ → Outcome → Type 0
-IsPartAt input limit path part = AreOctetsOf input limit (λ v. part_at v path part) lacks.NoPart
+    (FailsToCover input limit path detached) SaysLack

@@ -5,4 +5,3 @@ pub mod Digests
 pub mod Extents
 pub mod Many
 pub mod Outcomes
-pub mod Parts

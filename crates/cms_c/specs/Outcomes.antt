@@ -70,7 +70,6 @@ SaysLack (lacks.Fault e) o = SaysFault e o
 SaysLack lacks.NoSignedData o = Says o 3 101 0 0 (codes "no signed data")
 SaysLack lacks.NoSigner o = Says o 3 102 0 0 (codes "no such signer")
 SaysLack lacks.NoContent o = Says o 3 103 0 0 (codes "no content")
-SaysLack lacks.NoPart o = Says o 3 104 0 0 (codes "no such part")
 SaysLack lacks.NoTstInfo o = Says o 3 105 0 0 (codes "not a TSTInfo in DER")
 SaysLack lacks.NoDigest o = Says o 3 106 0 0 (codes "digest not given")
 SaysLack lacks.NeedsContent o = Says o 3 107 0 0 (codes "needs the content")

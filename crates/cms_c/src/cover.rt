@@ -2,8 +2,7 @@
 ghost use Rattle.std.specs.Prelude.{◌≡◌, Some, IfOk, IfErr};
 ghost use Rattle.std.specs.Option.{option_copied};
 ghost use Rattle.cms_canon.specs.Covering.{cover_at};
-ghost use Rattle.cms_c.specs.Calls.{IsCover, Lacks, LacksBy, Yields, limit_of_c, items_passed};
-ghost use Rattle.cms_c.specs.declared.outcome.Lack.TheVariants.{NoContent};
+ghost use Rattle.cms_c.specs.Calls.{IsCover, Lacks, FailsToCover, Yields, limit_of_c, items_passed};
 
 use crate::given::{message_in, passed};
 use crate::outcome::{Lack, Outcome};
@@ -56,8 +55,8 @@ fn covered(
     ensures ok { IfOk result (λ octets. Yields input.now (limit_of_c limit)
         (λ v. cover_at v path.now (option_copied detached.entry))
         (Some (Some (Some octets.items)))) }
-    ensures err { IfErr result (LacksBy input.now (limit_of_c limit)
-        (λ v. cover_at v path.now (option_copied detached.entry)) NoContent) }
+    ensures err { IfErr result (FailsToCover input.now (limit_of_c limit) path.now
+        (option_copied detached.entry)) }
 {
     match message_in(alloc, input, limit) {
         Ok(message) => cover_at(alloc, &message, path, detached),
@@ -74,7 +73,7 @@ fn cover_at(
     ensures ok { IfOk result (λ octets. cover_at message.now.value path.now
         (option_copied detached.entry) ≡ Some (Some (Some octets.items))) }
     ensures err { IfErr result (Lacks (cover_at message.now.value path.now
-        (option_copied detached.entry)) NoContent) }
+        (option_copied detached.entry))) }
 {
     let Some(signed_data) = message.signed_data() else {
         return Err(Lack::NoSignedData);

@@ -32,8 +32,6 @@ pub(crate) enum Lack {
     NoSigner,
     /// The signer has no signed attributes, and there is no content.
     NoContent,
-    /// The signer does not have the part, or the message not the certificate.
-    NoPart,
     /// The octets are not a TSTInfo in DER.
     NoTstInfo,
     /// A digest is asked for that is not given.
@@ -140,7 +138,6 @@ impl Outcome {
             Lack::NoSignedData => Outcome::refused(101, 0, "no signed data"),
             Lack::NoSigner => Outcome::refused(102, 0, "no such signer"),
             Lack::NoContent => Outcome::refused(103, 0, "no content"),
-            Lack::NoPart => Outcome::refused(104, 0, "no such part"),
             Lack::NoTstInfo => Outcome::refused(105, 0, "not a TSTInfo in DER"),
             Lack::NoDigest => Outcome::refused(106, 0, "digest not given"),
             Lack::NeedsContent => Outcome::refused(107, 0, "needs the content"),

@@ -97,7 +97,7 @@ module _ (left out : Option (List ℕ)) (failures failed status : ℕ) (wanted :
   not_done (Convert false) = not_converted
   not_done (Convert true) = none_converted
   not_done (Cover signer content) = not_covered content signer
-  not_done Show = inr (faults.OutOfMemory, none command_limit tails.Refuse, (refl, refl), wanted)
+  not_done (Show json) = inr (faults.OutOfMemory, none command_limit tails.Refuse, (refl, refl), wanted)
   not_done (Changes json) = inr (faults.OutOfMemory, none command_limit tails.Refuse, (refl, refl), wanted)
   not_done (Check a) = inr (faults.OutOfMemory, given command_limit (reads_rest a), (refl, refl), wanted)
   not_done Same = inr (faults.OutOfMemory, (same.First faults.OutOfMemory, refl, none command_limit tails.Leave), (refl, refl), wanted)

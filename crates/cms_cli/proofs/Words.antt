@@ -27,14 +27,14 @@ flags with_content with_data = (codes "check", None, Some (flag_text with_conten
 abbrev pub many_flag : Bool → Kept
 many_flag many = (codes "convert", None, None, None, Some (flag_text many), None)
 
-abbrev pub json_flag : Bool → Kept
-json_flag json = (codes "changes", None, None, None, None, Some (flag_text json))
+abbrev pub json_flag : Text → Bool → Kept
+json_flag name json = (name, None, None, None, None, Some (flag_text json))
 
 -- what is kept of the words of a task
 abbrev pub kept_of : (words : List Text) (task : Task) → AskFor words task → Kept
 kept_of words (Convert many) h = many_flag many
-kept_of words Show h = plain (codes "show")
-kept_of words (Changes json) h = json_flag json
+kept_of words (Show json) h = json_flag (codes "show") json
+kept_of words (Changes json) h = json_flag (codes "changes") json
 kept_of words (Check Nothing) h = flags false false
 kept_of words (Check Content) h = flags true false
 kept_of words (Check Data) h = flags false true
@@ -52,7 +52,8 @@ pub gives : (words : List Text) (task : Task) (h : AskFor words task) → Refine
 unfolding clap_on_literals
 gives words (Convert true) h = rw (h.1) (refl, refl)
 gives words (Convert false) h = rw (h.1) (refl, refl)
-gives words Show h = rw (h.1) (refl, refl)
+gives words (Show true) h = rw (h.1) (refl, refl)
+gives words (Show false) h = rw (h.1) (refl, refl)
 gives words (Changes true) h = rw (h.1) (refl, refl)
 gives words (Changes false) h = rw (h.1) (refl, refl)
 gives words (Check Nothing) h = rw (h.1) (refl, refl)

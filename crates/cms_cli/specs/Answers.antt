@@ -145,7 +145,7 @@ abbrev pub IsDone : Task → Reading → Writing → ℕ → Type 0
 IsDone (task.Convert false) r w status = IsConverted r w status
 IsDone (task.Convert true) r w status = AreAllConverted r w status
 IsDone (task.Cover signer content) r w status = IsCovered r w content signer status
-IsDone task.Show r w status =
+IsDone (task.Show json) r w status =
     IsAnswered w (IsListed r command_limit) (ExactFaults r command_limit tails.Refuse) status
 IsDone (task.Changes json) r w status =
     IsAnswered w (IsListed r command_limit) (ExactFaults r command_limit tails.Refuse) status

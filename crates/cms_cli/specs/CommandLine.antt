@@ -29,13 +29,13 @@ signer_rule = record
       required = true;
     }
 
---- `convert_app`, `changes_app`, `check_app`, `cover_app`: the subcommands `convert`, `changes`,
----   `check` and `cover`; the others have no options
+--- `convert_app`, `listing_app name`, `check_app`, `cover_app`: the subcommands `convert`, `show` and
+---   `changes`, `check` and `cover`; `same` has no options
 abbrev pub convert_app : App
 convert_app = with_rule (new_app (codes "convert")) (flag_rule (codes "many"))
 
-abbrev pub changes_app : App
-changes_app = with_rule (new_app (codes "changes")) (flag_rule (codes "json"))
+abbrev pub listing_app : List ℕ → App
+listing_app name = with_rule (new_app name) (flag_rule (codes "json"))
 
 abbrev pub check_app : App
 check_app = with_rule (with_rule (new_app (codes "check")) (flag_rule (codes "content")))
@@ -59,8 +59,8 @@ bare_program_app =
 abbrev pub program_app : App
 program_app = record {
   top = record bare_program_app.top { is_leaf = false };
-  subs = convert_app.top ∷ new_shape (codes "show") ∷ changes_app.top ∷ check_app.top
-      ∷ cover_app.top ∷ new_shape (codes "same") ∷ [];
+  subs = convert_app.top ∷ (listing_app (codes "show")).top ∷ (listing_app (codes "changes")).top
+      ∷ check_app.top ∷ cover_app.top ∷ new_shape (codes "same") ∷ [];
 }
 
 --- `IsNumber digits n`: `digits` are decimal digits of the number `n`, which `u64` holds
@@ -86,13 +86,9 @@ checked true true = Err Usage
 abbrev pub convert_words : List ℕ → Bool → List (List ℕ)
 convert_words p many = p ∷ codes "convert" ∷ (if many then codes "--many" ∷ [] else [])
 
---- `plain_words p name`: the words of `show` and `same`
-abbrev pub plain_words : List ℕ → List ℕ → List (List ℕ)
-plain_words p name = p ∷ name ∷ []
-
---- `changes_words p json`: the words of `changes`, with `--json` or without
-abbrev pub changes_words : List ℕ → Bool → List (List ℕ)
-changes_words p json = p ∷ codes "changes" ∷ (if json then codes "--json" ∷ [] else [])
+--- `listing_words p name json`: the words of `show` and `changes`, with `--json` or without
+abbrev pub listing_words : List ℕ → List ℕ → Bool → List (List ℕ)
+listing_words p name json = p ∷ name ∷ (if json then codes "--json" ∷ [] else [])
 
 --- `check_words p after`: the words of `check`, by what follows the message
 abbrev pub check_words : List ℕ → After → List (List ℕ)
@@ -108,13 +104,13 @@ cover_words p digits content =
 --- `AskFor words task`: the words ask for the task: they are those of its command
 abbrev pub AskFor : List (List ℕ) → Task → Type 0
 AskFor words (Convert many) = (p : List ℕ) × (words ≡ convert_words p many)
-AskFor words Show = (p : List ℕ) × (words ≡ plain_words p (codes "show"))
-AskFor words (Changes json) = (p : List ℕ) × (words ≡ changes_words p json)
+AskFor words (Show json) = (p : List ℕ) × (words ≡ listing_words p (codes "show") json)
+AskFor words (Changes json) = (p : List ℕ) × (words ≡ listing_words p (codes "changes") json)
 AskFor words (Check after) = (p : List ℕ) × (words ≡ check_words p after)
 AskFor words (Cover signer content) =
     (p : List ℕ) × (digits : List ℕ) × (words ≡ cover_words p digits content)
     × IsNumber digits signer
-AskFor words Same = (p : List ℕ) × (words ≡ plain_words p (codes "same"))
+AskFor words Same = (p : List ℕ) × (words ≡ p ∷ codes "same" ∷ [])
 
 --- `AskForBoth words`: the words ask `check` for both `--content` and `--data`, in either order
 abbrev pub AskForBoth : List (List ℕ) → Type 0

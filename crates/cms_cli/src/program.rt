@@ -71,8 +71,8 @@ fn perform<I: Input, O: Output, E: Output>(
             let (input, done) = canonicalise_many(alloc, input, output, LIMIT);
             (input, report_many(done, errors))
         }
-        Task::Show => {
-            let (input, answer) = show(alloc, input, LIMIT);
+        Task::Show { json } => {
+            let (input, answer) = show(alloc, input, LIMIT, json);
             (input, report_answer(answer, output, errors))
         }
         Task::Changes { json } => {

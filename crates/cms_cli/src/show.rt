@@ -1,17 +1,21 @@
 //! `show`: the listing of a message.
-ghost use Rattle.std.specs.Prelude.{◌≡◌, ◌≤◌, ◌^◌, IfOk, IfErr};
-ghost use Rattle.cms_tlv.specs.declared.fault.Fault.TheVariants.{OutOfMemory};
+ghost use Rattle.std.specs.Prelude.{◌≤◌, ◌^◌, IfOk, IfErr};
 ghost use Rattle.cms_canon.specs.Exact.{ExactFaults};
 ghost use Rattle.cms_canon.specs.Streams.{reading};
 ghost use Rattle.cms_cli.specs.Answers.{IsListed};
 
-use crate::answer::Answer;
-use cms_canon::{Message, Tail, listing, read_message};
+use crate::answer::{Answer, listed};
+use cms_canon::{Tail, json_of_message, listing, read_message};
 use cms_tlv::{Fault, Input};
 use std::alloc::Global;
 
-/// Reads a message with nothing after it, and lists it.
-pub(crate) fn show<I: Input>(alloc: Global, input: I, limit: u64) -> (I, Result<Answer, Fault>)
+/// Reads a message with nothing after it, and lists it, in lines or as JSON.
+pub(crate) fn show<I: Input>(
+    alloc: Global,
+    input: I,
+    limit: u64,
+    json: bool,
+) -> (I, Result<Answer, Fault>)
     requires { limit ≤ 2 ^ 40 }
     ensures ok { IfOk result.1 (λ a. IsListed (reading I.left I.failures input result.0) limit
         a.status a.text.items) }
@@ -20,21 +24,9 @@ pub(crate) fn show<I: Input>(alloc: Global, input: I, limit: u64) -> (I, Result<
 {
     let (input, message) = read_message(alloc, input, limit, Tail::Refuse);
     let answer = match message {
-        Ok(message) => listed(alloc, &message),
+        Ok(message) if json => listed(json_of_message(alloc, &message)),
+        Ok(message) => listed(listing(alloc, &message)),
         Err(fault) => Err(fault),
     };
     (input, answer)
-}
-
-fn listed(alloc: Global, message: &Message) -> Result<Answer, Fault>
-    ensures ok { IfOk result (λ a. a.status ≡ 0) }
-    ensures err { IfErr result (λ e. e ≡ OutOfMemory) }
-{
-    match listing(alloc, message) {
-        Ok(text) => Ok(Answer {
-            text: text.into_bytes(),
-            status: 0,
-        }),
-        Err(_) => Err(Fault::OutOfMemory),
-    }
 }

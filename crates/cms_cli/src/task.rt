@@ -7,7 +7,7 @@
 ghost use Rattle.std.specs.Prelude.{◌≡◌, ◌⊎◌, ℕ, List, [], ◌∷◌, Bool, Some, IfOk, Ok, Err, codes, map, false};
 ghost use Rattle.clap.specs.Words.{app_of, found_of, kind_of, new_app, one_text, rule_of};
 ghost use Rattle.clap.specs.declared.builder.command.Command.TheViews.{out-Command};
-ghost use Rattle.cms_cli.specs.CommandLine.{program_app, bare_program_app, convert_app, changes_app, check_app, cover_app, signer_rule, flag_rule, IsNumber, flag_text, checked, AskFor, AskForBoth};
+ghost use Rattle.cms_cli.specs.CommandLine.{program_app, bare_program_app, convert_app, listing_app, check_app, cover_app, signer_rule, flag_rule, IsNumber, flag_text, checked, AskFor, AskForBoth};
 
 use crate::texts::{self, Help};
 use clap::error::ErrorKind;
@@ -24,7 +24,10 @@ pub enum Task {
         many: bool,
     },
     /// List what is in the message.
-    Show,
+    Show {
+        /// Whether as JSON.
+        json: bool,
+    },
     /// List what conversion changes in the message.
     Changes {
         /// Whether as JSON.
@@ -109,11 +112,12 @@ fn convert_command<'a>(alloc: Global) -> Result<Command<'a>, AllocError>
     plain_command(alloc, "convert", texts::CONVERT).arg(flag(alloc, "many", texts::MANY))
 }
 
-fn changes_command<'a>(alloc: Global) -> Result<Command<'a>, AllocError>
-    ensures app { IfOk result (λ c. app_of c ≡ changes_app) }
+/// A command that writes lines, or JSON.
+fn listing_command<'a>(alloc: Global, name: &'a str, help: Help) -> Result<Command<'a>, AllocError>
+    ensures app { IfOk result (λ c. app_of c ≡ listing_app name.entry.now) }
     ensures local { IfOk result (λ c. (out-Command c).has_globals ≡ false) }
 {
-    plain_command(alloc, "changes", texts::CHANGES).arg(flag(alloc, "json", texts::JSON))
+    plain_command(alloc, name, help).arg(flag(alloc, "json", texts::JSON))
 }
 
 fn check_command<'a>(alloc: Global) -> Result<Command<'a>, AllocError>
@@ -141,7 +145,7 @@ fn bare_command<'a>(alloc: Global) -> Command<'a>
         .override_usage(texts::USAGE)
         .about(texts::ABOUT)
         .after_help(texts::MORE)
-        .version("0.26.0")
+        .version("0.27.0")
         .subcommand_required(true)
 }
 
@@ -150,8 +154,8 @@ fn command<'a>(alloc: Global) -> Result<Command<'a>, AllocError>
 {
     bare_command(alloc)
         .subcommand(convert_command(alloc)?)?
-        .subcommand(plain_command(alloc, "show", texts::SHOW))?
-        .subcommand(changes_command(alloc)?)?
+        .subcommand(listing_command(alloc, "show", texts::SHOW)?)?
+        .subcommand(listing_command(alloc, "changes", texts::CHANGES)?)?
         .subcommand(check_command(alloc)?)?
         .subcommand(cover_command(alloc)?)?
         .subcommand(plain_command(alloc, "same", texts::SAME))
@@ -175,7 +179,9 @@ fn task_named(name: &str, matches: &ArgMatches<'_>) -> Result<Task, NoTask>
     ensures convert { name.now ≡ codes "convert" → (many : Bool)
         → one_text (found_of matches.now) (codes "many") ≡ Some (flag_text many)
         → result ≡ Ok (Task.Convert many) }
-    ensures show { name.now ≡ codes "show" → result ≡ Ok Task.Show }
+    ensures show { name.now ≡ codes "show" → (json : Bool)
+        → one_text (found_of matches.now) (codes "json") ≡ Some (flag_text json)
+        → result ≡ Ok (Task.Show json) }
     ensures changes { name.now ≡ codes "changes" → (json : Bool)
         → one_text (found_of matches.now) (codes "json") ≡ Some (flag_text json)
         → result ≡ Ok (Task.Changes json) }
@@ -193,15 +199,25 @@ fn task_named(name: &str, matches: &ArgMatches<'_>) -> Result<Task, NoTask>
         "convert" => Ok(Task::Convert {
             many: matches.get_flag("many"),
         }),
-        "show" => Ok(Task::Show),
+        "show" => Ok(Task::Show {
+            json: wants_json(matches),
+        }),
         "changes" => Ok(Task::Changes {
-            json: matches.get_flag("json"),
+            json: wants_json(matches),
         }),
         "check" => check_of(matches),
         "cover" => cover_of(matches),
         "same" => Ok(Task::Same),
         _ => Err(NoTask::Usage),
     }
+}
+
+/// Whether a listing is to be JSON.
+fn wants_json(matches: &ArgMatches<'_>) -> bool
+    ensures { (json : Bool) → one_text (found_of matches.now) (codes "json") ≡ Some (flag_text json)
+        → result ≡ json }
+{
+    matches.get_flag("json")
 }
 
 /// What `check` is asked to do: what follows the message is one thing at most.

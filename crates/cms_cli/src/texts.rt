@@ -15,9 +15,10 @@ pub(crate) const USAGE: &str = "cms-canon <COMMAND>";
 pub(crate) const ABOUT: &str = "\
 Reads one message from the standard input and writes it in DER, lists it, lists
 what its DER changes, says which rules it breaks, writes what one of its
-signatures covers, or compares it with a second message. A message is a CMS signed message (RFC 5652), or a
-request or a response of time-stamping (RFC 3161), in BER or in DER. With
---many, `convert` converts any number of messages.
+signatures covers, or compares it with a second message. A message is a CMS
+signed message (RFC 5652), or a request or a response of time-stamping (RFC
+3161), in BER or in DER. With --many, `convert` converts any number of
+messages.
 
 DER is the one canonical encoding: two messages are the same if and only if
 their DER is identical. No octet that a signature covers is changed. Whether a
@@ -178,7 +179,7 @@ Exit status:
 };
 
 pub(crate) const SHOW: Help = Help {
-    usage: "cms-canon show < MESSAGE",
+    usage: "cms-canon show [--json] < MESSAGE",
     about: "List what is in the message, one fact a line",
     more: "\
 The input is one message, as for `cms-canon convert`. The listing describes the
@@ -223,8 +224,12 @@ since 1970:
 The listing of a request begins with `kind: request`, and that of a response
 with `kind: response`. The listing of its token follows `token: present`.
 
+With --json, all fields are one object, whose members docs/FORMATS.md explains:
+what the listing only counts, as certificates and values of attributes, too.
+
 Examples:
   cms-canon show < message.der
+  cms-canon show --json < message.der
   cms-canon show < response.tsr | grep tst-time
 
 The refusals and the exit statuses are those of `cms-canon convert`.",

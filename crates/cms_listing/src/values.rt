@@ -81,7 +81,7 @@ impl Listed for OctetCount {
 
 /// Octets in hexadecimal.
 #[derive(Clone, Copy)]
-struct Hex<'a>(&'a [u8]);
+pub(crate) struct Hex<'a>(pub(crate) &'a [u8]);
 
 impl Listed for Hex<'_> {
     fn append(&self, text: &mut String) -> Result<(), AllocError> {
@@ -92,7 +92,7 @@ impl Listed for Hex<'_> {
 
 /// An OCTET STRING in hexadecimal.
 #[derive(Clone, Copy)]
-struct HexOctets<'a>(Octets<'a>);
+pub(crate) struct HexOctets<'a>(pub(crate) Octets<'a>);
 
 impl Listed for HexOctets<'_> {
     fn append(&self, text: &mut String) -> Result<(), AllocError> {
@@ -116,18 +116,24 @@ impl Listed for Integer<'_> {
     }
 }
 
-/// Its arcs, or its contents octets if an arc is too large for a `u64`; and its name.
+/// Its arcs, and its name.
 impl Listed for Oid<'_> {
     fn append(&self, text: &mut String) -> Result<(), AllocError> {
-        match self.dotted(*text.allocator())? {
-            Some(arcs) => text.push_str(&arcs)?,
-            None => {
-                text.push_str("hex:")?;
-                Hex(self.octets()).append(text)?;
-            }
-        }
+        append_arcs(self, text)?;
         text.push(' ')?;
         text.push_str(self.name().unwrap_or("-"))
+    }
+}
+
+/// Appends the arcs of an OBJECT IDENTIFIER, or its contents octets if an arc is too large for a `u64`.
+/// An error means out of memory.
+pub(crate) fn append_arcs(oid: &Oid<'_>, text: &mut String) -> Result<(), AllocError> {
+    match oid.dotted(*text.allocator())? {
+        Some(arcs) => text.push_str(&arcs),
+        None => {
+            text.push_str("hex:")?;
+            Hex(oid.octets()).append(text)
+        }
     }
 }
 
@@ -203,10 +209,7 @@ const BEFORE: [&str; 7] = ["", "", "-", "-", "T", ":", ":"];
 /// The time, and its seconds since the beginning of 1970.
 impl Listed for GenTime {
     fn append(&self, text: &mut String) -> Result<(), AllocError> {
-        for (before, digits) in BEFORE.iter().zip(self.digits().chunks(2)) {
-            text.push_str(before)?;
-            append_digits(digits, text)?;
-        }
+        append_date_and_time(self, text)?;
         if !self.fraction().is_empty() {
             text.push('.')?;
             append_digits(self.fraction(), text)?;
@@ -215,8 +218,17 @@ impl Listed for GenTime {
     }
 }
 
-/// Appends decimal digits.
-fn append_digits(digits: &[u8], text: &mut String) -> Result<(), AllocError> {
+/// Appends a time without its fraction, as `2024-02-29T12:00:00`. An error means out of memory.
+pub(crate) fn append_date_and_time(time: &GenTime, text: &mut String) -> Result<(), AllocError> {
+    for (before, digits) in BEFORE.iter().zip(time.digits().chunks(2)) {
+        text.push_str(before)?;
+        append_digits(digits, text)?;
+    }
+    Ok(())
+}
+
+/// Appends decimal digits. An error means out of memory.
+pub(crate) fn append_digits(digits: &[u8], text: &mut String) -> Result<(), AllocError> {
     for digit in digits {
         text.push(char::from(*digit))?;
     }

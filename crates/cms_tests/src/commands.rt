@@ -22,7 +22,14 @@ const WORDS: &[(&[&str], Reply)] = &[
         &["cms-canon", "convert", "--many"],
         Reply::Task(Task::Convert { many: true }),
     ),
-    (&["cms-canon", "show"], Reply::Task(Task::Show)),
+    (
+        &["cms-canon", "show"],
+        Reply::Task(Task::Show { json: false }),
+    ),
+    (
+        &["cms-canon", "show", "--json"],
+        Reply::Task(Task::Show { json: true }),
+    ),
     (
         &["cms-canon", "changes"],
         Reply::Task(Task::Changes { json: false }),
@@ -74,6 +81,7 @@ const WORDS: &[(&[&str], Reply)] = &[
     (&["cms-canon", "convert", "--many", "--many"], Reply::Usage),
     (&["cms-canon", "convert", "--many=2"], Reply::Usage),
     (&["cms-canon", "show", "--many"], Reply::Usage),
+    (&["cms-canon", "show", "--json", "--json"], Reply::Usage),
     (&["cms-canon", "show", "message"], Reply::Usage),
     (&["cms-canon", "changes", "--json", "--json"], Reply::Usage),
     (&["cms-canon", "check", "--content", "--data"], Reply::Usage),

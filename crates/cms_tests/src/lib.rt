@@ -38,6 +38,8 @@ mod faults;
 #[cfg(test)]
 mod following;
 #[cfg(test)]
+mod json;
+#[cfg(test)]
 mod large_sets;
 #[cfg(test)]
 mod listings;

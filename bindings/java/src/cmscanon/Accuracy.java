@@ -10,4 +10,4 @@ import java.math.BigInteger;
  * @param millis milliseconds, from 1 to 999; null if they are absent
  * @param micros microseconds, from 1 to 999; null if they are absent
  */
-public record Accuracy(BigInteger seconds, Integer millis, Integer micros) {}
+public record Accuracy(@Nullable BigInteger seconds, @Nullable Integer millis, @Nullable Integer micros) {}

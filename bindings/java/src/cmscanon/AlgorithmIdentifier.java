@@ -10,7 +10,7 @@ import java.util.Objects;
  *     subidentifier has more than 64 bits
  * @param parameters the parameters, one element; null if they are absent. NULL is not absent: it is {@code 05 00}
  */
-public record AlgorithmIdentifier(String oid, Octets parameters) {
+public record AlgorithmIdentifier(String oid, @Nullable Octets parameters) {
     /**
      * Refuses null for what is never absent.
      *

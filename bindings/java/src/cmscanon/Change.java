@@ -14,7 +14,15 @@ package cmscanon;
  * @param text the line of the command {@code changes}, as {@code at 0 length made definite: 30 80 -> 30 23}
  */
 public record Change(
-        String kind, long place, long length, long derPlace, long derLength, long first, long second, String set, String text) {
+        String kind,
+        long place,
+        long length,
+        long derPlace,
+        long derLength,
+        long first,
+        long second,
+        @Nullable String set,
+        String text) {
     static final int WORDS = 8; // of 64 bits, which a change has
 
     /** The change with these words from {@code at} on. */

@@ -108,6 +108,7 @@ public final class CmsCanon {
          * Why the next message is refused, with a text as {@code message 1: refused E1 Truncated at 1}; null if there is no octet
          * more.
          */
+        @Nullable
         public final Refused refused;
 
         Many(byte[] der, long messages, long read, Refused refused) {
@@ -168,6 +169,7 @@ public final class CmsCanon {
          *
          * @param job the signature, and what it covers
          */
+        @Nullable
         Verdict verify(Job job);
     }
 
@@ -221,16 +223,19 @@ public final class CmsCanon {
          * {@return the name of the issuer of the signer's certificate, one element; null if the signer is named by a key
          * identifier}
          */
+        @Nullable
         public byte[] issuer() {
             return orNull(info.issuer());
         }
 
         /** {@return the serial number of the signer's certificate; null if the signer is named by a key identifier} */
+        @Nullable
         public BigInteger serialNumber() {
             return info.serialNumber();
         }
 
         /** {@return the key identifier of the signer's certificate; null if the signer is named by issuer and serial number} */
+        @Nullable
         public byte[] subjectKeyIdentifier() {
             return orNull(info.subjectKeyIdentifier());
         }
@@ -495,7 +500,8 @@ public final class CmsCanon {
      * @throws Refused if it is no such message
      * @see #checkStreams(byte[], InputStream, InputStream, Verifier, long)
      */
-    public static List<Finding> check(byte[] data, byte[] content, byte[] stamped, Verifier verifier, long limit) throws Refused {
+    public static List<Finding> check(
+            byte[] data, @Nullable byte[] content, @Nullable byte[] stamped, @Nullable Verifier verifier, long limit) throws Refused {
         checkLimit(limit);
         if (verifier == null) {
             return findings(data, content, stamped, limit);
@@ -531,7 +537,8 @@ public final class CmsCanon {
      *     is then not read, and {@code check} with arrays is the way
      * @throws IllegalArgumentException if both streams are the same one
      */
-    public static List<Finding> checkStreams(byte[] data, InputStream content, InputStream stamped, Verifier verifier, long limit)
+    public static List<Finding> checkStreams(
+            byte[] data, @Nullable InputStream content, @Nullable InputStream stamped, @Nullable Verifier verifier, long limit)
             throws Refused, IOException {
         checkLimit(limit);
         if (content != null && content == stamped) {
@@ -711,7 +718,7 @@ public final class CmsCanon {
      * @throws Refused if it is no such message, or if the signature covers nothing in it
      * @see #cover(byte[], long, byte[], long)
      */
-    public static byte[] cover(byte[] data, long signer, byte[] content) throws Refused {
+    public static byte[] cover(byte[] data, long signer, @Nullable byte[] content) throws Refused {
         return cover(data, signer, content, LIMIT);
     }
 
@@ -729,7 +736,7 @@ public final class CmsCanon {
      * @throws Refused if it is no such message, or if the signature covers nothing in it
      * @throws IllegalArgumentException if the number is negative
      */
-    public static byte[] cover(byte[] data, long signer, byte[] content, long limit) throws Refused {
+    public static byte[] cover(byte[] data, long signer, @Nullable byte[] content, long limit) throws Refused {
         return cover(data, new long[] {signer}, content, limit);
     }
 
@@ -748,7 +755,7 @@ public final class CmsCanon {
      * @throws Refused if it is no such message, or if the signature covers nothing in it
      * @throws IllegalArgumentException if a number is negative
      */
-    public static byte[] cover(byte[] data, long[] path, byte[] content, long limit) throws Refused {
+    public static byte[] cover(byte[] data, long[] path, @Nullable byte[] content, long limit) throws Refused {
         checkLimit(limit);
         checkPath(path);
         long[] numbers = Arrays.copyOf(path, path.length + 1); // JNA might pass an array without members as NULL

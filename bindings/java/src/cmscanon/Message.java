@@ -15,7 +15,7 @@ import java.util.Objects;
  * @param request null if the message is no request
  * @param response null if the message is no response
  */
-public record Message(MessageKind kind, SignedData signedData, TimeStampReq request, TimeStampResp response) {
+public record Message(MessageKind kind, @Nullable SignedData signedData, @Nullable TimeStampReq request, @Nullable TimeStampResp response) {
     /**
      * Refuses a {@code kind} that is null.
      *
@@ -31,6 +31,7 @@ public record Message(MessageKind kind, SignedData signedData, TimeStampReq requ
     // What is in a SignedData: scripts/generate writes this from bindings/records.toml.
 
     /** {@return {@link SignedData#version}} */
+    @Nullable
     public BigInteger version() {
         return signedData == null ? null : signedData.version();
     }
@@ -41,21 +42,25 @@ public record Message(MessageKind kind, SignedData signedData, TimeStampReq requ
     }
 
     /** {@return {@link SignedData#contentType}} */
+    @Nullable
     public String contentType() {
         return signedData == null ? null : signedData.contentType();
     }
 
     /** {@return {@link SignedData#content}} */
+    @Nullable
     public Octets content() {
         return signedData == null ? null : signedData.content();
     }
 
     /** {@return {@link SignedData#certificates}} */
+    @Nullable
     public List<Octets> certificates() {
         return signedData == null ? null : signedData.certificates();
     }
 
     /** {@return {@link SignedData#crls}} */
+    @Nullable
     public List<Octets> crls() {
         return signedData == null ? null : signedData.crls();
     }
@@ -75,6 +80,7 @@ public record Message(MessageKind kind, SignedData signedData, TimeStampReq requ
      *
      * @param signer a signer of the message
      */
+    @Nullable
     public Octets certificateOf(SignerInfo signer) {
         List<Octets> all = certificates() == null ? List.of() : certificates();
         List<Octets> named = all.stream().filter(it -> Certificate.isNamed(it.toArray(), signer)).distinct().toList();

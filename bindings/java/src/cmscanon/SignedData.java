@@ -22,9 +22,9 @@ public record SignedData(
         BigInteger version,
         List<AlgorithmIdentifier> digestAlgorithms,
         String contentType,
-        Octets content,
-        List<Octets> certificates,
-        List<Octets> crls,
+        @Nullable Octets content,
+        @Nullable List<Octets> certificates,
+        @Nullable List<Octets> crls,
         List<SignerInfo> signers) {
     /**
      * Copies the lists. Refuses null for what is never absent.
@@ -54,6 +54,7 @@ public record SignedData(
      *
      * @throws CmsCanon.Refused with the reason 105, if the content is no TSTInfo in DER
      */
+    @Nullable
     public TstInfo tstInfo() throws CmsCanon.Refused {
         return content == null || !contentType.equals(TST_INFO) ? null : CmsCanon.tstInfo(content.toArray());
     }

@@ -24,16 +24,16 @@ import java.util.Objects;
  */
 public record SignerInfo(
         BigInteger version,
-        Octets issuer,
-        BigInteger serialNumber,
-        Octets subjectKeyIdentifier,
+        @Nullable Octets issuer,
+        @Nullable BigInteger serialNumber,
+        @Nullable Octets subjectKeyIdentifier,
         AlgorithmIdentifier digestAlgorithm,
         List<Attribute> signedAttributes,
-        Octets signedAttributesElement,
+        @Nullable Octets signedAttributesElement,
         AlgorithmIdentifier signatureAlgorithm,
         Octets signature,
         List<Attribute> unsignedAttributes,
-        Octets content) {
+        @Nullable Octets content) {
     /**
      * Copies the lists. Refuses null for what is never absent.
      *
@@ -67,6 +67,7 @@ public record SignerInfo(
      *
      * @param name as {@code messageDigest}, or as {@code 1.2.840.113549.1.9.4}
      */
+    @Nullable
     public Attribute signedAttribute(String name) {
         String oid = Names.OF.getOrDefault(name, name);
         List<Attribute> found = signedAttributes.stream().filter(it -> it.oid().equals(oid)).toList();
@@ -77,6 +78,7 @@ public record SignerInfo(
      * {@return the octets of the attribute message-digest (RFC 5652, section 11.2); null if there is none, or none that has one value
      * which is an OCTET STRING} Whether it is the digest of the content, {@link CmsCanon#check(byte[])} says.
      */
+    @Nullable
     public Octets messageDigest() {
         Element value = signedValue("messageDigest");
         return value != null && value.identifier() == OCTET_STRING ? Octets.copyOf(value.contents()) : null;
@@ -86,6 +88,7 @@ public record SignerInfo(
      * {@return when the signer says that it signed (RFC 5652, section 11.3); null if it does not say so, or not as it should} Nobody
      * vouches for it.
      */
+    @Nullable
     public java.time.Instant signingTime() {
         Element value = signedValue("signingTime");
         return value == null ? null : SigningTime.in(value);
@@ -114,7 +117,7 @@ public record SignerInfo(
      *     content already
      * @throws CmsCanon.Refused with the reason 103, if the signer has no signed attributes and there is no content
      */
-    public byte[] covered(byte[] detached) throws CmsCanon.Refused {
+    public byte[] covered(@Nullable byte[] detached) throws CmsCanon.Refused {
         if (signedAttributesElement != null) {
             byte[] attributes = signedAttributesElement.toArray();
             attributes[0] = SET_OF; // in place of [0] IMPLICIT

@@ -17,10 +17,10 @@ import java.util.Objects;
 public record TimeStampReq(
         BigInteger version,
         MessageImprint imprint,
-        String policy,
-        BigInteger nonce,
+        @Nullable String policy,
+        @Nullable BigInteger nonce,
         boolean certReq,
-        Octets extensions) {
+        @Nullable Octets extensions) {
     /**
      * Refuses null for what is never absent.
      *

@@ -12,7 +12,11 @@ import java.util.Objects;
  * @param failInfo failInfo, a PKIFailureInfo; null if it is absent
  * @param token the SignedData of timeStampToken; null if there is no token
  */
-public record TimeStampResp(BigInteger status, Octets statusString, NamedBits failInfo, SignedData token) {
+public record TimeStampResp(
+        BigInteger status,
+        @Nullable Octets statusString,
+        @Nullable NamedBits failInfo,
+        @Nullable SignedData token) {
     /**
      * Refuses null for what is never absent.
      *

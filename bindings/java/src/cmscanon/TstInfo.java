@@ -24,11 +24,11 @@ public record TstInfo(
         MessageImprint imprint,
         BigInteger serialNumber,
         GeneralizedTime genTime,
-        Accuracy accuracy,
+        @Nullable Accuracy accuracy,
         boolean ordering,
-        BigInteger nonce,
-        Octets tsa,
-        Octets extensions) {
+        @Nullable BigInteger nonce,
+        @Nullable Octets tsa,
+        @Nullable Octets extensions) {
     /**
      * Refuses null for what is never absent.
      *

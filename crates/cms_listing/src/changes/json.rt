@@ -5,10 +5,10 @@ ghost use Rattle.cms_fields.specs.Writing.{Grew};
 
 use super::change::{Change, ChangeKind};
 use super::origins::Origins;
-use super::text::{SHOWN, append_octet, name_of, name_of_set};
+use super::text::{SHOWN, name_of, name_of_set};
 use super::within::changes_by;
+use crate::json::{append_first, append_member};
 use crate::lines::hand_over;
-use crate::values::Listed;
 use cms_setof::Piece;
 use std::alloc::{AllocError, Global};
 
@@ -47,9 +47,9 @@ fn append_changes(
         between = ", ";
     }
     text.push(']')?;
-    append_number("octets_in", octets.len() as u64, text)?;
-    append_number("octets_out", der.len() as u64, text)?;
-    append_number("from_input", origins.copied, text)?;
+    append_member("octets_in", &(octets.len() as u64), text)?;
+    append_member("octets_out", &(der.len() as u64), text)?;
+    append_member("from_input", &origins.copied, text)?;
     text.push_str("}\n")
 }
 
@@ -60,13 +60,11 @@ fn append_change(
     der: &[u8],
     text: &mut String,
 ) -> Result<(), AllocError> {
-    text.push_str("{\"change\": \"")?;
-    text.push_str(name_of(change.kind))?;
-    text.push('"')?;
-    append_number("at", change.at as u64, text)?;
-    append_number("length", change.length as u64, text)?;
-    append_number("to", change.to as u64, text)?;
-    append_number("to_length", change.to_length as u64, text)?;
+    append_first("change", &name_of(change.kind), text)?;
+    append_member("at", &(change.at as u64), text)?;
+    append_member("length", &(change.length as u64), text)?;
+    append_member("to", &(change.to as u64), text)?;
+    append_member("to_length", &(change.to_length as u64), text)?;
     append_octets_of(change, octets, der, text)?;
     append_numbers(change, text)?;
     text.push('}')
@@ -81,10 +79,10 @@ fn append_octets_of(
 ) -> Result<(), AllocError> {
     match change.kind {
         ChangeKind::SegmentsJoined | ChangeKind::Moved => Ok(()),
-        ChangeKind::DefaultOmitted => append_hex("before", change.before(octets), text),
+        ChangeKind::DefaultOmitted => append_member("before", &shown(change.before(octets)), text),
         _ => {
-            append_hex("before", change.before(octets), text)?;
-            append_hex("after", change.after(der), text)
+            append_member("before", &shown(change.before(octets)), text)?;
+            append_member("after", &shown(change.after(der)), text)
         }
     }
 }
@@ -92,50 +90,30 @@ fn append_octets_of(
 /// Appends the numbers of a change, by their names.
 fn append_numbers(change: &Change, text: &mut String) -> Result<(), AllocError> {
     match change.kind {
-        ChangeKind::LengthMadeDefinite => append_number("end_of_contents", change.second, text),
+        ChangeKind::LengthMadeDefinite => append_member("end_of_contents", &change.second, text),
         ChangeKind::SegmentsJoined => {
-            append_number("segments", change.first, text)?;
-            append_number("octets", change.second, text)
+            append_member("segments", &change.first, text)?;
+            append_member("octets", &change.second, text)
         }
         ChangeKind::Moved => append_move(change, text),
         ChangeKind::TrailingZeroBitsRemoved | ChangeKind::UnusedBitsSetToZero => {
-            append_number("bits_before", change.first, text)?;
-            append_number("bits_after", change.second, text)
+            append_member("bits_before", &change.first, text)?;
+            append_member("bits_after", &change.second, text)
         }
         _ => Ok(()),
     }
 }
 
 fn append_move(change: &Change, text: &mut String) -> Result<(), AllocError> {
-    append_number("from_member", change.first, text)?;
-    append_number("to_member", change.second, text)?;
+    append_member("from_member", &change.first, text)?;
+    append_member("to_member", &change.second, text)?;
     let Some(set) = change.set else {
         return Ok(());
     };
-    append_name("set", text)?;
-    text.push('"')?;
-    text.push_str(name_of_set(set))?;
-    text.push('"')
+    append_member("set", &name_of_set(set), text)
 }
 
-/// Appends the name of a further member.
-fn append_name(name: &str, text: &mut String) -> Result<(), AllocError> {
-    text.push_str(", \"")?;
-    text.push_str(name)?;
-    text.push_str("\": ")
-}
-
-fn append_number(name: &str, number: u64, text: &mut String) -> Result<(), AllocError> {
-    append_name(name, text)?;
-    number.append(text)
-}
-
-/// Appends octets in hexadecimal; of many the first ones.
-fn append_hex(name: &str, octets: &[u8], text: &mut String) -> Result<(), AllocError> {
-    append_name(name, text)?;
-    text.push('"')?;
-    for octet in &octets[..octets.len().min(SHOWN)] {
-        append_octet(*octet, text)?;
-    }
-    text.push('"')
+/// Of octets those that are shown.
+fn shown(octets: &[u8]) -> &[u8] {
+    &octets[..octets.len().min(SHOWN)]
 }

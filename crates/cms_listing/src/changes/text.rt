@@ -166,7 +166,7 @@ static DIGITS: [char; 16] = [
 ];
 
 /// Appends an octet in hexadecimal.
-pub(super) fn append_octet(octet: u8, text: &mut String) -> Result<(), AllocError> {
+fn append_octet(octet: u8, text: &mut String) -> Result<(), AllocError> {
     text.push(DIGITS[(octet / 16) as usize])?;
     text.push(DIGITS[(octet % 16) as usize])
 }

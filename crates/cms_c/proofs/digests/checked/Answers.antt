@@ -26,7 +26,6 @@ lacks_of_input input limit content stamped v a (lacks.Fault (faults.Write writte
 lacks_of_input input limit content stamped v a lacks.NoSignedData h = (v, a, h)
 lacks_of_input input limit content stamped v a lacks.NoSigner h = (v, a, h)
 lacks_of_input input limit content stamped v a lacks.NoContent h = (v, a, h)
-lacks_of_input input limit content stamped v a lacks.NoPart h = (v, a, h)
 lacks_of_input input limit content stamped v a lacks.NoTstInfo h = (v, a, h)
 lacks_of_input input limit content stamped v a lacks.NoDigest h = (v, a, h)
 lacks_of_input input limit content stamped v a lacks.NeedsContent h = (v, a, h)

@@ -15,9 +15,10 @@ returns c =
     let convert =
     more _ _ _ _ _ c.bare_command.ensures.app c.in_ok-convert_command.ensures.app c.in_ok-convert_command.ensures.local
     c.in_ok-subcommand.ensures in
-    let show = more _ _ _ _ _ convert c.plain_command.ensures.app c.plain_command.ensures.local c.in_ok-subcommand-2.ensures in
+    let show =
+    more _ _ _ _ _ convert c.in_ok-listing_command.ensures.app c.in_ok-listing_command.ensures.local c.in_ok-subcommand-2.ensures in
     let changes =
-    more _ _ _ _ _ show c.in_ok-changes_command.ensures.app c.in_ok-changes_command.ensures.local c.in_ok-subcommand-3.ensures in
+    more _ _ _ _ _ show c.in_ok-listing_command-2.ensures.app c.in_ok-listing_command-2.ensures.local c.in_ok-subcommand-3.ensures in
     let check = more _ _ _ _ _ changes c.in_ok-check_command.ensures.app c.in_ok-check_command.ensures.local c.in_ok-subcommand-4.ensures in
     let cover = more _ _ _ _ _ check c.in_ok-cover_command.ensures.app c.in_ok-cover_command.ensures.local c.in_ok-subcommand-5.ensures in
-    IfOk-weaker c.subcommand-6.result _ _ (λ r h. more _ _ _ _ _ cover c.plain_command-2.ensures.app c.plain_command-2.ensures.local h) c.subcommand-6.ensures
+    IfOk-weaker c.subcommand-6.result _ _ (λ r h. more _ _ _ _ _ cover c.plain_command.ensures.app c.plain_command.ensures.local h) c.subcommand-6.ensures

@@ -35,7 +35,7 @@ checked_is g c with_content with_data h = let k = kept_is g c _ h in
 
 task_is : (g : Over) (c : goal.Joined-matches-2 g) (task : Task) → AskFor (map g.S.AsStr.text c.args.words.now) task → c.task_named.result ≡ Ok task
 task_is g c (Convert many) h = let k = kept_is g c _ (gives _ (Convert many) h) in c.task_named.ensures.convert (ap (λ x. x.0) k) many (ap (λ x. x.4) k)
-task_is g c Show h = c.task_named.ensures.show (ap (λ x. x.0) (kept_is g c _ (gives _ Show h)))
+task_is g c (Show json) h = let k = kept_is g c _ (gives _ (Show json) h) in c.task_named.ensures.show (ap (λ x. x.0) k) json (ap (λ x. x.5) k)
 task_is g c (Changes json) h = let k = kept_is g c _ (gives _ (Changes json) h) in c.task_named.ensures.changes (ap (λ x. x.0) k) json (ap (λ x. x.5) k)
 task_is g c (Check Nothing) h = checked_is g c false false (gives _ (Check Nothing) h)
 task_is g c (Check Content) h = checked_is g c true false (gives _ (Check Content) h)
