@@ -9,6 +9,8 @@
 mod block;
 mod edge;
 mod octet;
+#[cfg(test)]
+mod tests;
 mod written;
 
 pub use block::{Block, NoBlock, block_in};
