@@ -1,5 +1,5 @@
 -- The lines at which a block begins and ends.
-use Rattle.std.proofs.Common.{◌≡◌, ◌≢◌, ◌+◌, ◌-◌, ◌<◌, ◌≤◌, ◌++◌, ◌∷◌, [], ℕ, List, Bool, true, false, length, take, drop, get_or, refl, arith, sym, ap, ◌∙◌, append_assoc, length-append, nat_eq, not, Option, Some, None, IfNone, IfSome, MatchOption, Bor}
+use Rattle.std.proofs.Common.{◌≡◌, ◌≢◌, ◌+◌, ◌-◌, ◌<◌, ◌≤◌, ◌++◌, ℕ, List, Bool, true, false, length, take, drop, get_or, refl, arith, sym, ap, ◌∙◌, append_assoc, length-append, nat_eq, not, Option, Some, None, IfNone, IfSome, MatchOption, Bor}
 use Rattle.std.specs.Cmp.Lexicographic.{pointwise}
 use Rattle.std.specs.Cmp.Lexicographic.{same_text, other_text}
 use Rattle.std.specs.List.{suffix_len}

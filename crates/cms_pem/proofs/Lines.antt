@@ -1,5 +1,5 @@
 -- Base64 in lines.
-use Rattle.std.proofs.Common.{◌≡◌, ◌+◌, ◌-◌, ◌/◌, ◌<◌, ◌≤◌, ◌++◌, ◌∷◌, [], suc, ℕ, List, length, take, drop, refl, arith, length-drop, append_assoc, ap, ap₂, sym, ◌∙◌, min}
+use Rattle.std.proofs.Common.{◌≡◌, ◌+◌, ◌/◌, ◌<◌, ◌++◌, ◌∷◌, [], suc, ℕ, List, length, take, drop, arith, length-drop, append_assoc, ap, ap₂, sym, ◌∙◌, min}
 use Rattle.std.proofs.lemmas.List.{take_min, drop_min}
 use Rattle.cms_pem.specs.Pem.{first_lines, lines_of}
 

@@ -1,4 +1,4 @@
-use Rattle.std.proofs.Common.{◌≡◌, ◌++◌, ◌<◌, ◌∷◌, [], ◌∙◌, ap, ap₂, length, take, drop, arith}
+use Rattle.std.proofs.Common.{◌++◌, ◌<◌, ◌∷◌, [], ◌∙◌, ap, length, take, drop, arith}
 use Rattle.cms_pem.specs.Pem.{lines_of}
 use Rattle.cms_pem.proofs.Lines.{line_put}
 use Rattle.cms_pem.proofs.written.put_lines.Goals as goal
