@@ -1,7 +1,7 @@
 -- PEM (RFC 7468, section 3): a block in a text, read as lax in white space, and written strictly.
-use Rattle.std.specs.Prelude.{◌≡◌, ◌≢◌, ℕ, zero, suc, ◌+◌, ◌-◌, ◌/◌, ◌<◌, ◌≤◌, ◌==◌, ◌⊎◌, nat_le, Bool}
-use Rattle.std.specs.Prelude.{true, not, ◌&&◌, ◌||◌, List, [], ◌∷◌, ◌++◌, length, take, drop, codes, min}
-use Rattle.std.specs.Prelude.{slice_index, slice_range, filter, unwrap_or}
+use Rattle.std.specs.Prelude.{◌≡◌, ◌≢◌, ℕ, zero, suc, ◌+◌, ◌-◌, ◌/◌, ◌<◌, ◌≤◌, ◌==◌, ◌⊎◌}
+use Rattle.std.specs.Prelude.{nat_le, Bool, true, not, ◌&&◌, ◌||◌, List, [], ◌∷◌, ◌++◌, length}
+use Rattle.std.specs.Prelude.{take, drop, codes, min, slice_index, slice_range, filter, unwrap_or}
 use Rattle.std.specs.List.{position, suffix_len}
 use Rattle.base64.specs.Engines.{standard}
 use Rattle.base64.specs.GeneralPurpose.{IsBytes, encode_of}
@@ -19,9 +19,9 @@ is_base64 b =
     is_blank b || (nat_le 65 b && nat_le b 90) || (nat_le 97 b && nat_le b 122)
     || (nat_le 48 b && nat_le b 57) || (b == 43) || (b == 47) || (b == 61)
 
---- `place_of p s`: the place of the first octet that passes the test, or the length if none does
-abbrev pub place_of : (ℕ → Bool) → List ℕ → ℕ
-place_of p s = unwrap_or (position p s) (length s)
+--- `first_place p s`: the place of the first octet that passes the test, or the length if none does
+abbrev pub first_place : (ℕ → Bool) → List ℕ → ℕ
+first_place p s = unwrap_or (position p s) (length s)
 
 --- `begins_line text at`: a line begins at this place: the text does, or there is an LF before it
 abbrev pub begins_line : List ℕ → ℕ → Bool
@@ -30,7 +30,7 @@ begins_line text at = (at == 0) || (slice_index text (at - 1) == 10)
 --- `line_at text at`, `after_line text at`: what is between this place and the next LF, or the end
 ---   of the text; and the place after that LF
 abbrev pub line_at : List ℕ → ℕ → List ℕ
-line_at text at = take (place_of (λ b. b == 10) (drop at text)) (drop at text)
+line_at text at = take (first_place (λ b. b == 10) (drop at text)) (drop at text)
 
 abbrev pub after_line : List ℕ → ℕ → ℕ
 after_line text at = min (at + length (line_at text at) + 1) (length text)
@@ -80,11 +80,11 @@ IsNoBase64 s = (octets : List ℕ) → IsBase64Of octets s → ⊥
 --- `wrong_in s`: the place of the first that is neither a character of base64 nor white space, or
 ---   the length if there is none
 abbrev pub wrong_in : List ℕ → ℕ
-wrong_in s = place_of (λ b. not (is_base64 b)) s
+wrong_in s = first_place (λ b. not (is_base64 b)) s
 
---- `IsBegun text from label body`: the first line that begins a block is there, has this label, and
----   what follows it begins at `body`
-pub record IsBegun (text : List ℕ) (from : ℕ) (label : List ℕ) (body : ℕ) : Type 0 where
+--- `IsBlockBegun text from label body`: the first line that begins a block is there, has this
+---   label, and what follows it begins at `body`
+pub record IsBlockBegun (text : List ℕ) (from : ℕ) (label : List ℕ) (body : ℕ) : Type 0 where
   pub begin : ℕ
   pub begins : IsFirstEdge begin_word label text from begin
   pub follows : body ≡ after_line text begin
@@ -93,7 +93,7 @@ pub record IsBegun (text : List ℕ) (from : ℕ) (label : List ℕ) (body : ℕ
 ---   same label
 pub record IsEnclosed (text : List ℕ) (from body end : ℕ) : Type 0 where
   pub label : List ℕ
-  pub begun : IsBegun text from label body
+  pub begun : IsBlockBegun text from label body
   pub ends : IsFirstEdge end_word label text body end
 
 --- `IsBlock text from block`: the first block from the place `from` on: `block` has the octets of
@@ -109,15 +109,15 @@ pub record IsBlock (text : List ℕ) (from : ℕ) (block : Block) : Type 0 where
 ---   label
 abbrev pub IsUnended : List ℕ → ℕ → Type 0
 IsUnended text from =
-    (label : List ℕ) × (body : ℕ) × IsBegun text from label body
+    (label : List ℕ) × (body : ℕ) × IsBlockBegun text from label body
     × (HasNoEdge end_word text body (length text)
     ⊎ ((other : List ℕ) × (end : ℕ) × IsFirstEdge end_word other text body end × (other ≢ label)))
 
---- `IsMalformed text from at`: what is between the lines is not the base64 of any octets; `at` is
----   the place of its first octet that is neither a character of base64 nor white space, or that of
----   the last line
-abbrev pub IsMalformed : List ℕ → ℕ → ℕ → Type 0
-IsMalformed text from at =
+--- `IsMalformedBlock text from at`: what is between the lines is not the base64 of any octets; `at`
+---   is the place of its first octet that is neither a character of base64 nor white space, or that
+---   of the last line
+abbrev pub IsMalformedBlock : List ℕ → ℕ → ℕ → Type 0
+IsMalformedBlock text from at =
     (body : ℕ) × (end : ℕ) × IsEnclosed text from body end
     × IsNoBase64 (slice_range text body end) × (at ≡ body + wrong_in (slice_range text body end))
 
@@ -125,7 +125,7 @@ IsMalformed text from at =
 abbrev pub IsNoBlock : List ℕ → ℕ → NoBlock → Type 0
 IsNoBlock text from NoBegin = HasNoEdge begin_word text from (length text)
 IsNoBlock text from NoEnd = IsUnended text from
-IsNoBlock text from (Malformed at) = IsMalformed text from at
+IsNoBlock text from (Malformed at) = IsMalformedBlock text from at
 IsNoBlock text from OutOfMemory = Unit {0}
 
 --- `first_lines n s`, `lines_of s`: `n` lines of 64 characters, each with an LF; and as many as `s`

@@ -62,7 +62,8 @@ fn first_feed(rest: &[u8]) -> Option<usize>
 /// The label in a line that begins with `word` and ends with dashes, and maybe white space after them.
 fn label_in<'a>(word: &[u8], line: &'a [u8]) -> Option<&'a [u8]>
     ensures some { IfSome result (λ label. trimmed line.now ≡ word.now ++ label.now ++ dashes) }
-    ensures none { IfNone result ((label : List ℕ) → trimmed line.now ≢ word.now ++ label ++ dashes) }
+    ensures none { IfNone result ((label : List ℕ)
+        → trimmed line.now ≢ word.now ++ label ++ dashes) }
 {
     trimmed(line).strip_prefix(word)?.strip_suffix(b"-----")
 }

@@ -1,9 +1,7 @@
 //! PEM (RFC 7468): the first block of a text as octets, and octets as a block.
 //!
-//! ```text
-//! let block = block_in(alloc, text, 0)?;           // `block.octets`, and `block.after`, where it ends
-//! let text = pem_of(alloc, "CMS", &block.octets)?;
-//! ```
+//! `block_in` reads the first block from a place on, and says where what follows it begins. `pem_of`
+//! writes one.
 #![tactic(auto)]
 
 mod block;

@@ -4,26 +4,26 @@ use std::alloc::Global;
 use std::test::Fail;
 
 /// The octets of each block that is read.
-const OCTETS: &[u8] = &[0x30, 0x03, 0x02, 0x01, 0x05];
+const OCTETS: &[u8] = b"Hello";
 
 /// Texts of a block, and how many octets follow it.
 const READ: &[(&[u8], usize)] = &[
-    (b"-----BEGIN CMS-----\nMAMCAQU=\n-----END CMS-----\n", 0),
+    (b"-----BEGIN CMS-----\nSGVsbG8=\n-----END CMS-----\n", 0),
     (
-        b"-----BEGIN CMS-----\r\nMAMCAQU=\r\n-----END CMS-----\r\n",
+        b"-----BEGIN CMS-----\r\nSGVsbG8=\r\n-----END CMS-----\r\n",
         0,
     ),
-    (b"-----BEGIN CMS-----\nMAMCAQU=\n-----END CMS-----", 0),
+    (b"-----BEGIN CMS-----\nSGVsbG8=\n-----END CMS-----", 0),
     (
-        b"-----BEGIN CMS----- \t\n\tMA MC\x0b\x0c\n\nAQ\rU=\n \n-----END CMS----- \n",
+        b"-----BEGIN CMS----- \t\n\tSG Vs\x0b\x0c\n\nbG\r8=\n \n-----END CMS----- \n",
         0,
     ),
     (
-        b"text\n -----BEGIN X-----\n-----BEGIN PKCS7-----\nMAMCAQU=\n-----END PKCS7-----\nmore",
+        b"text\n -----BEGIN X-----\n-----BEGIN PKCS7-----\nSGVsbG8=\n-----END PKCS7-----\nmore",
         4,
     ),
     (
-        b"-----BEGIN -----\nMAMCAQU=\n-----END -----\n-----BEGIN -----\n",
+        b"-----BEGIN -----\nSGVsbG8=\n-----END -----\n-----BEGIN -----\n",
         17,
     ),
 ];
@@ -31,42 +31,42 @@ const READ: &[(&[u8], usize)] = &[
 /// Texts without a block, and why they have none.
 const REFUSED: &[(&[u8], NoBlock)] = &[
     (b"", NoBlock::NoBegin),
-    (b"MAMCAQU=\n", NoBlock::NoBegin),
+    (b"SGVsbG8=\n", NoBlock::NoBegin),
     (
-        b" -----BEGIN CMS-----\nMAMCAQU=\n-----END CMS-----\n",
+        b" -----BEGIN CMS-----\nSGVsbG8=\n-----END CMS-----\n",
         NoBlock::NoBegin,
     ),
     (
-        b"\xef\xbb\xbf-----BEGIN CMS-----\nMAMCAQU=\n-----END CMS-----\n",
+        b"\xef\xbb\xbf-----BEGIN CMS-----\nSGVsbG8=\n-----END CMS-----\n",
         NoBlock::NoBegin,
     ),
-    (b"-----BEGIN CMS-----\nMAMCAQU=\n", NoBlock::NoEnd),
+    (b"-----BEGIN CMS-----\nSGVsbG8=\n", NoBlock::NoEnd),
     (
-        b"-----BEGIN CMS-----\nMAMCAQU=\n-----END PKCS7-----\n",
+        b"-----BEGIN CMS-----\nSGVsbG8=\n-----END PKCS7-----\n",
         NoBlock::NoEnd,
     ),
     (
-        b"-----BEGIN CMS-----\nMAMCAQU=\n-----end cms-----\n",
+        b"-----BEGIN CMS-----\nSGVsbG8=\n-----end cms-----\n",
         NoBlock::NoEnd,
     ),
     (
-        b"-----BEGIN CMS-----\nMAM!AQU=\n-----END CMS-----\n",
+        b"-----BEGIN CMS-----\nSGV!bG8=\n-----END CMS-----\n",
         NoBlock::Malformed { at: 23 },
     ),
     (
-        b"-----BEGIN CMS-----\nA: b\n\nMAMCAQU=\n-----END CMS-----\n",
+        b"-----BEGIN CMS-----\nA: b\n\nSGVsbG8=\n-----END CMS-----\n",
         NoBlock::Malformed { at: 21 },
     ),
     (
-        b"-----BEGIN CMS-----\nMAMCAQU\n-----END CMS-----\n",
+        b"-----BEGIN CMS-----\nSGVsbG8\n-----END CMS-----\n",
         NoBlock::Malformed { at: 28 },
     ),
     (
-        b"-----BEGIN CMS-----\nMAMCAQV=\n-----END CMS-----\n",
+        b"-----BEGIN CMS-----\nSGVsbG9=\n-----END CMS-----\n",
         NoBlock::Malformed { at: 29 },
     ),
     (
-        b"-----BEGIN CMS-----\nMA==MAMC\n-----END CMS-----\n",
+        b"-----BEGIN CMS-----\nSA==SGVs\n-----END CMS-----\n",
         NoBlock::Malformed { at: 29 },
     ),
 ];
@@ -99,7 +99,7 @@ fn other_texts_are_refused(rt: HostRuntime) {
 #[test]
 fn a_block_is_written(rt: HostRuntime) -> Result<(), Fail> {
     let text = pem_of(rt.alloc(), "CMS", OCTETS)?;
-    let wanted: &[u8] = b"-----BEGIN CMS-----\nMAMCAQU=\n-----END CMS-----\n";
+    let wanted: &[u8] = b"-----BEGIN CMS-----\nSGVsbG8=\n-----END CMS-----\n";
     assert!(rt; text.as_slice() == wanted, "the block");
     Ok(())
 }
