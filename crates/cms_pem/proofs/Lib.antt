@@ -1,0 +1,2 @@
+mod Edges
+mod Lines
