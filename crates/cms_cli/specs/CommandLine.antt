@@ -29,8 +29,8 @@ signer_rule = record
       required = true;
     }
 
---- `convert_app`, `listing_app name`, `check_app`, `cover_app`: the subcommands `convert`, `show` and
----   `changes`, `check` and `cover`; `same` has no options
+--- `convert_app`, `listing_app name`, `check_app`, `cover_app`: the subcommands `convert`, `show`
+---   and `changes`, `check` and `cover`; `same` has no options
 abbrev pub convert_app : App
 convert_app = with_rule (new_app (codes "convert")) (flag_rule (codes "many"))
 
