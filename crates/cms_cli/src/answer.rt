@@ -13,16 +13,18 @@ pub(crate) struct Answer {
     pub(crate) status: u8,
 }
 
-/// A listing with status 0, or that there was no memory for it.
-pub(crate) fn listed(text: Result<String, AllocError>) -> Result<Answer, Fault>
-    ensures ok { IfOk result (λ a. a.status ≡ 0) }
-    ensures err { IfErr result (λ e. e ≡ OutOfMemory) }
-{
-    match text {
-        Ok(text) => Ok(Answer {
-            text: text.into_bytes(),
-            status: 0,
-        }),
-        Err(_) => Err(Fault::OutOfMemory),
+impl Answer {
+    /// A listing with status 0, or that there was no memory for it.
+    pub(crate) fn of_listing(text: Result<String, AllocError>) -> Result<Answer, Fault>
+        ensures ok { IfOk result (λ a. a.status ≡ 0) }
+        ensures err { IfErr result (λ e. e ≡ OutOfMemory) }
+    {
+        match text {
+            Ok(text) => Ok(Answer {
+                text: text.into_bytes(),
+                status: 0,
+            }),
+            Err(_) => Err(Fault::OutOfMemory),
+        }
     }
 }

@@ -1,11 +1,12 @@
 //! `show`: the listing of a message.
-ghost use Rattle.std.specs.Prelude.{◌≤◌, ◌^◌, IfOk, IfErr};
+ghost use Rattle.std.specs.Prelude.{◌≡◌, ◌≤◌, ◌^◌, IfOk, IfErr};
+ghost use Rattle.cms_tlv.specs.declared.fault.Fault.TheVariants.{OutOfMemory};
 ghost use Rattle.cms_canon.specs.Exact.{ExactFaults};
 ghost use Rattle.cms_canon.specs.Streams.{reading};
 ghost use Rattle.cms_cli.specs.Answers.{IsListed};
 
-use crate::answer::{Answer, listed};
-use cms_canon::{Tail, json_of_message, listing, read_message};
+use crate::answer::Answer;
+use cms_canon::{Message, Tail, json_of_message, listing, read_message};
 use cms_tlv::{Fault, Input};
 use std::alloc::Global;
 
@@ -24,9 +25,20 @@ pub(crate) fn show<I: Input>(
 {
     let (input, message) = read_message(alloc, input, limit, Tail::Refuse);
     let answer = match message {
-        Ok(message) if json => listed(json_of_message(alloc, &message)),
-        Ok(message) => listed(listing(alloc, &message)),
+        Ok(message) => listed(alloc, &message, json),
         Err(fault) => Err(fault),
     };
     (input, answer)
+}
+
+fn listed(alloc: Global, message: &Message, json: bool) -> Result<Answer, Fault>
+    ensures ok { IfOk result (λ a. a.status ≡ 0) }
+    ensures err { IfErr result (λ e. e ≡ OutOfMemory) }
+{
+    let text = if json {
+        json_of_message(alloc, message)
+    } else {
+        listing(alloc, message)
+    };
+    Answer::of_listing(text)
 }
