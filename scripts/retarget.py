@@ -17,7 +17,7 @@ OF_WASM = ('"no-builtin-bcmp" "no-builtin-memcmp" "no-builtin-strlen" "probe-sta
            '"target-cpu"="lime1"')
 OF_PROCESSOR = re.compile(r"@llvm\.aarch64\.|(?<!inline-)\basm\b|^module asm|byval|thread_local|\bblockaddress\b", re.M)
 LEFT_OF_AARCH64 = re.compile(r'^attributes .*(?:"frame-pointer"|"target-cpu"="generic"|"target-features").*$', re.M)
-EXPORT = re.compile(r"^define void @(\w+)\((.*?)\) (?:local_unnamed_addr )?#\d+ \{$", re.M)
+EXPORT = re.compile(r"^define ((?:noundef )?(?:void|i32)) @(\w+)\((.*?)\) (?:local_unnamed_addr )?#\d+ \{$", re.M)
 OTHER_EXPORT = re.compile(r"^define (?!internal )(?!.*fastcc).*@\w+.*$", re.M)
 HELPERS = """
 declare noundef zeroext i1 @__rattle_enter()
@@ -25,7 +25,7 @@ declare void @__rattle_leave()
 declare void @__rattle_trap()
 """
 WRAPPER = """
-define void @{name}({parameters}) #{group} {{
+define {returns} @{name}({parameters}) #{group} {{
 start:
   %spent = call i1 @__rattle_enter()
   br i1 %spent, label %trap, label %run
@@ -35,9 +35,9 @@ trap:
   unreachable
 
 run:
-  call void @"rattle::export {name}"({arguments})
+  {keeps}call {kind} @"rattle::export {name}"({arguments})
   call void @__rattle_leave()
-  ret void
+  ret {kept}
 }}
 attributes #{group} = {{ nounwind {attributes} "wasm-export-name"="{name}" }}
 """
@@ -72,10 +72,13 @@ def retargeted(text):
     exports = EXPORT.findall(text)
     group = max(map(int, re.findall(r"^attributes #(\d+)", text, re.M)))
     wrappers = [HELPERS]
-    for number, (name, parameters) in enumerate(exports, group + 1):
-        text = text.replace(f"define void @{name}(", f'define internal void @"rattle::export {name}"(')
+    for number, (returns, name, parameters) in enumerate(exports, group + 1):
+        text = text.replace(f"define {returns} @{name}(", f'define internal {returns} @"rattle::export {name}"(')
         arguments = ", ".join(map(argument, parameters.split(", "))) if parameters else ""
-        wrappers.append(WRAPPER.format(name=name, parameters=parameters, arguments=arguments, group=number, attributes=OF_WASM))
+        kind = returns.removeprefix("noundef ")
+        keeps, kept = ("", "void") if kind == "void" else ("%result = ", f"{kind} %result")
+        words = {"returns": returns, "kind": kind, "keeps": keeps, "kept": kept, "arguments": arguments}
+        wrappers.append(WRAPPER.format(name=name, parameters=parameters, group=number, attributes=OF_WASM, **words))
     if left := OTHER_EXPORT.findall(text):
         raise Unexpected(f"an export of another kind: {left[0]}")
     return text + "".join(wrappers), len(exports)

@@ -4,14 +4,16 @@
  * of its fields is; and the octets that its signatures cover.
  *
  *     struct cms_canon_outcome outcome;
- *     cms_canon_convert(input, input_length, CMS_CANON_LIMIT, output, output_room, &outcome);
+ *     cms_canon_convert(input, input_length, CMS_CANON_LIMIT,
+ *                       output, output_room, &outcome);
  *     if (outcome.status == CMS_CANON_DONE)
  *         fwrite(output, 1, outcome.octets, stdout);
  *     else if (outcome.status == CMS_CANON_REFUSED)
- *         fprintf(stderr, "refused E%u %s at %llu\n", outcome.reason, outcome.name, (unsigned long long)outcome.at);
+ *         fprintf(stderr, "refused E%u %s at %llu\n", outcome.reason,
+ *                 outcome.name, (unsigned long long)outcome.at);
  *
- * A `reason` above 100, which only cms_canon_cover, cms_canon_part, cms_canon_tst_info_fields and cms_canon_check_digests give, has no
- * `at`. The line of the command is then "refused: %s", with `name`.
+ * A `reason` above 100, which only cms_canon_cover, cms_canon_tst_info_fields and cms_canon_check_digests give, has no `at`. The line of
+ * the command is then "refused: %s", with `name`.
  *
  * Each call works on the memory that it is handed alone. It keeps nothing and has no global state, so any number of threads
  * may call at once, with outputs and outcomes of their own. It takes working memory by malloc and frees it before it returns:
@@ -34,18 +36,22 @@
 #include <stddef.h>
 #include <stdint.h>
 
-/* Marks a call that a later release does not have. Define it as empty to have no warning. */
-#ifndef CMS_CANON_DEPRECATED
-#ifdef __GNUC__
-#define CMS_CANON_DEPRECATED __attribute__((deprecated))
-#else
-#define CMS_CANON_DEPRECATED
-#endif
-#endif
-
 #ifdef __cplusplus
 extern "C" {
 #endif
+
+/* The version: scripts/generate writes this from crates/cms_cli/src/task.rt */
+/* The release of this header. */
+#define CMS_CANON_VERSION "0.27.0"
+/* The same as one number: 10,000 times the first number, 100 times the second, and the third. */
+#define CMS_CANON_VERSION_NUMBER 2700
+/* the end of the version */
+
+/*
+ * Returns the release of the library that the program runs with, as one number: if it is CMS_CANON_VERSION_NUMBER, it is that of the
+ * header.
+ */
+uint32_t cms_canon_version(void);
 
 /* The limit of the command, in octets: 256 MiB. A limit may be at most 2^40; a larger one counts as 2^40. */
 #define CMS_CANON_LIMIT UINT64_C(268435456)
@@ -63,13 +69,12 @@ enum cms_canon_status {
     CMS_CANON_ROOM_TOO_SMALL = 6  /* `octets` says how much room is needed; nothing was written: call again with more */
 };
 
-/* The values of `reason`: 1 to 19 stand for E1 to E19 (docs/FORMATS.md), and these say why there is no cover, part or TSTInfo, or
- * why digests do not suffice. */
+/* The values of `reason`: 1 to 19 stand for E1 to E19 (docs/FORMATS.md), and these say why there is no cover or TSTInfo, or why
+ * digests do not suffice. */
 enum cms_canon_reason {
     CMS_CANON_NO_SIGNED_DATA = 101, /* the message is a request, or a response without a token */
     CMS_CANON_NO_SIGNER = 102,      /* the path is empty, or leads to no signer or countersignature */
     CMS_CANON_NO_CONTENT = 103,     /* the signer has no signed attributes, and there is no content */
-    CMS_CANON_NO_PART = 104,        /* the signer does not have this part, or the message this certificate */
     CMS_CANON_NO_TST_INFO = 105,    /* the octets are not a TSTInfo in DER */
     CMS_CANON_NO_DIGEST = 106,      /* a digest that the message asks for is not given */
     CMS_CANON_NEEDS_CONTENT = 107   /* the content is needed itself, and not only by its digests */
@@ -84,6 +89,77 @@ struct cms_canon_outcome {
                         that the call returns; if one of two messages is refused, which: 1 or 2; else 0 */
     char name[24];   /* the name of the reason, as "Overrun" or "no such signer", with zeros after it: a string, or "" */
 };
+
+/*
+ * Returns what the `reason` of an outcome means, and what to do: a string in ASCII, which must not be freed. For a reason that no outcome
+ * has, and for 0, it is "unknown reason".
+ */
+static inline const char *cms_canon_reason_text(uint32_t reason)
+{
+    switch (reason) {
+    /* The reasons: scripts/generate writes this from docs/texts/refusals.toml */
+    case 1: return "The input ends before the message does. At 0 it is empty. Get the whole message.";
+    case 2:
+        return "The message, its DER, the detached content or the data have more than 268,435,456 octets, or a length in the "
+               "message says so. If it is not damaged: `cms-canon-archive check FILE DOCUMENT` takes content and data of any "
+               "length, `cms-canon-archive convert --limit` longer messages, and a program of your own can give a larger "
+               "limit.";
+    case 3: return "A length is malformed. Get the message again: it is damaged, or was badly made.";
+    case 4: return "A length is malformed. Get the message again: it is damaged, or was badly made.";
+    case 5: return "A length is malformed. Get the message again: it is damaged, or was badly made.";
+    case 6:
+        return "An element is longer than what is left of the one around it. Get the message again: it is damaged, or was "
+               "badly made.";
+    case 7:
+        return "An element is missing, or is not allowed here, or an identifier is malformed. Get the message again: it is "
+               "damaged, or was badly made.";
+    case 8: return "An INTEGER is empty, or longer than it has to be. Only the maker of the message can fix it.";
+    case 9:
+        return "An OBJECT IDENTIFIER is empty, or one of its numbers begins with 80 or does not end. Only the maker of the "
+               "message can fix it.";
+    case 10: return "The contents of a BOOLEAN are not one octet. Only the maker of the message can fix it.";
+    case 11:
+        return "A BIT STRING counts unused bits that it cannot have, or is empty. Only the maker of the message can fix it.";
+    case 12:
+        return "The content is in segments inside segments, more than eight deep. Nothing helps: eight is the limit of "
+               "`cms-canon`.";
+    case 13:
+        return "A certificate, a revocation list, an attribute value or another field that is kept octet for octet is not "
+               "framed as in DER. Only the maker of the message can fix it.";
+    case 14:
+        return "A certificate, a revocation list, an attribute value or another field that is kept octet for octet is nested "
+               "more than 64 deep. Only the maker of the message can fix it.";
+    case 15:
+        return "Signed attributes are in another order than in DER, or have a length that is not DER's. Keep the message as it"
+               " is: its signature covers these octets, so they must not be encoded again.";
+    case 16: return "Signed or unsigned attributes are there and empty. Only the maker of the message can fix it.";
+    case 17:
+        return "It is CMS, but of another content type, as plain or enveloped data. Nothing helps: of CMS only SignedData is "
+               "converted.";
+    case 18:
+        return "Something follows the message. At 1434, for example, the message is 1433 octets long. Cut the message out: in "
+               "the example, `head -c 1433` does it. If it is the content or the data, give `--content` or `--data`. If "
+               "messages follow, `convert --many` converts them too.";
+    case 19: return "Countersignatures are nested more than four deep. Nothing helps: four is the limit of `cms-canon`.";
+    case 101:
+        return "The message is accepted, and is a request, or a response without a token: it has no signers. Give a signed "
+               "message, or a response that has a token.";
+    case 102:
+        return "The message is accepted, and has no signer or countersignature with this number. Numbers count from 0, in the "
+               "order read.";
+    case 103:
+        return "The message is accepted, the signer has no signed attributes, and the content is detached. Give the content.";
+    case 105: return "The octets are not a TSTInfo in DER. Only the maker of the token can fix it.";
+    case 106:
+        return "The message asks for a digest of the content or of the data that is not among those given. Ask which digests "
+               "are needed, and give all of them.";
+    case 107:
+        return "The detached content has to be a TSTInfo: it is needed itself, and not only by its digests. Give the content "
+               "itself.";
+    /* the end of the reasons */
+    default: return "unknown reason";
+    }
+}
 
 /*
  * Converts: reads the `input_length` octets at `input`, which are one message in BER or DER with nothing after it, and writes
@@ -148,9 +224,10 @@ struct cms_canon_extent {
  * `extent` was changed, or the call before said CMS_CANON_WHOLE or CMS_CANON_NOTHING, the extent says nothing.
  *
  *     struct cms_canon_extent extent = {0};
- *     do
+ *     do {
  *         length += read_more(input + length);
- *     while (cms_canon_extent(input, length, CMS_CANON_LIMIT, &extent), extent.reach == CMS_CANON_MORE);
+ *         cms_canon_extent(input, length, CMS_CANON_LIMIT, &extent);
+ *     } while (extent.reach == CMS_CANON_MORE);
  *
  * Only headers are read, and not what is in elements of definite length: whether the element is a message, cms_canon_convert says.
  */
@@ -195,6 +272,38 @@ struct cms_canon_finding {
     uint32_t code;       /* 1 to 19 for F1 to F19 (docs/FORMATS.md) */
     uint32_t has_signer; /* 1 for a rule for a signer, 0 for one for the message */
 };
+
+/*
+ * Returns the text that the command has for the finding with this code, as "message digest differs": a string in ASCII, which must not be
+ * freed. For a code that no finding has it is "unknown finding".
+ */
+static inline const char *cms_canon_finding_text(uint32_t code)
+{
+    switch (code) {
+    /* The findings: scripts/generate writes this from docs/texts/findings.toml */
+    case 1: return "version does not follow the version rule";
+    case 2: return "version does not fit the signer identifier";
+    case 3: return "signed attributes missing";
+    case 4: return "content-type attribute not once with one value";
+    case 5: return "content-type attribute names another type";
+    case 6: return "message-digest attribute not once with one octet string";
+    case 7: return "message digest differs";
+    case 8: return "digest algorithm unknown";
+    case 9: return "no content";
+    case 10: return "digest algorithm not listed";
+    case 11: return "not a time-stamp token";
+    case 12: return "token has not one signer";
+    case 13: return "content is not a TSTInfo in DER";
+    case 14: return "imprint differs";
+    case 15: return "no signing-certificate attribute";
+    case 16: return "no certificate has the hash";
+    case 17: return "verifier says bad";
+    case 18: return "verifier says unknown";
+    case 19: return "token does not fit the status";
+    /* the end of the findings */
+    default: return "unknown finding";
+    }
+}
 
 /*
  * Writes the rules that the message at `input` breaks to the array `findings`, which has room for `findings_room` of them.
@@ -295,38 +404,6 @@ void cms_canon_check_digests(const uint8_t *input, size_t input_length, const st
 void cms_canon_same(const uint8_t *first, size_t first_length, const uint8_t *second, size_t second_length, uint64_t limit,
                     struct cms_canon_outcome *outcome);
 
-/* The parts of a signer that cms_canon_part writes (RFC 5652, section 5.3), and a certificate of the message. */
-enum cms_canon_part_of_signer {
-    CMS_CANON_SIGNATURE = 1,              /* the octets of the signature */
-    CMS_CANON_SIGNATURE_ALGORITHM = 2,    /* the contents octets of the OBJECT IDENTIFIER in signatureAlgorithm */
-    CMS_CANON_SIGNATURE_PARAMETERS = 3,   /* its parameters, one element; refused if they are absent: NULL is `05 00` */
-    CMS_CANON_DIGEST_ALGORITHM = 4,       /* the contents octets of the OBJECT IDENTIFIER in digestAlgorithm */
-    CMS_CANON_DIGEST_PARAMETERS = 5,      /* its parameters, likewise */
-    CMS_CANON_ISSUER = 6,                 /* the issuer of the signer's certificate: a Name, one element */
-    CMS_CANON_SERIAL_NUMBER = 7,          /* the contents octets of the INTEGER that is its serial number */
-    CMS_CANON_SUBJECT_KEY_IDENTIFIER = 8, /* the octets of its key identifier: a signer has either this or 6 and 7 */
-    CMS_CANON_CERTIFICATE = 9             /* of the message: the certificate with the number path[0], one element */
-};
-
-/*
- * Deprecated: a later release does not have it. cms_canon_fields says where all of these are, with one reading.
- *
- * Writes the octets of a part of the signer or countersignature at `path`, which is that of cms_canon_cover, as they were
- * received. What the signer does not have is refused as `no such part` (CMS_CANON_NO_PART), and so is a number that is no part.
- *
- * A certificate is no part of a signer: the path is then one number, which counts the certificates of the message from 0 in the
- * order read, and a number out of range is `no such part`. An element that begins with 30 is a Certificate (RFC 5280); A0 to A3
- * are the other kinds of RFC 5652, section 10.2.2. Which certificate is the signer's is for the caller to find, by parts 6 and
- * 7 or 8.
- *
- * The message and its DER may have at most `limit` octets each.
- *
- * Room for `input_length` octets always suffices.
- */
-CMS_CANON_DEPRECATED
-void cms_canon_part(const uint8_t *input, size_t input_length, const uint64_t *path, size_t path_length, uint32_t part,
-                    uint64_t limit, uint8_t *output, size_t output_room, struct cms_canon_outcome *outcome);
-
 /* A field of a message, or a segment of one. */
 struct cms_canon_row {
     uint64_t start;  /* where in the input its octets begin, from 0 */
@@ -410,11 +487,17 @@ enum cms_canon_kind {
  * level that is one more. A field that is absent has no row. So all of a message comes from one reading; for example, its signers and
  * their countersignatures, each with the name or the key identifier of its certificate:
  *
- *     for (const struct cms_canon_row *row = fields; row < fields + outcome.octets; row++) {
- *         if (row->kind == CMS_CANON_KIND_SIGNER || row->kind == CMS_CANON_KIND_COUNTERSIGNATURE)
- *             printf(row->kind == CMS_CANON_KIND_SIGNER ? "signer\n" : "countersignature\n");
- *         if (row->kind == CMS_CANON_KIND_ISSUER || row->kind == CMS_CANON_KIND_SUBJECT_KEY_IDENTIFIER)
- *             print_octets(input + row->start, row->length);
+ *     for (uint64_t i = 0; i < outcome.octets; i++) {
+ *         const uint8_t *octets = input + fields[i].start;
+ *         switch (fields[i].kind) {
+ *         case CMS_CANON_KIND_SIGNER:
+ *         case CMS_CANON_KIND_COUNTERSIGNATURE:
+ *             puts("signer");
+ *             break;
+ *         case CMS_CANON_KIND_ISSUER:
+ *         case CMS_CANON_KIND_SUBJECT_KEY_IDENTIFIER:
+ *             print_octets(octets, fields[i].length);
+ *         }
  *     }
  *
  * What a signature covers, from the fields of its signer or countersignature, whose level is one more than that of the row SIGNER or
@@ -451,8 +534,10 @@ struct cms_canon_piece {
  * `pieces_room` of them. `octets` of the outcome says how many pieces there are, and not octets. Their octets, one piece after
  * another, are the DER that cms_canon_convert writes; so this writes it to a file, from `input` and that DER:
  *
- *     for (const struct cms_canon_piece *piece = pieces; piece < pieces + outcome.octets; piece++)
- *         fwrite((piece->made ? der : input) + piece->place, 1, piece->length, file);
+ *     for (uint64_t i = 0; i < outcome.octets; i++) {
+ *         const uint8_t *from = pieces[i].made ? der : input;
+ *         fwrite(from + pieces[i].place, 1, pieces[i].length, file);
+ *     }
  *
  * Only headers, BOOLEAN and BIT STRINGs with named bits are made, if they are not the same in the input beside what is copied; all
  * else is copied from the input. No piece goes on where the one before it ends: copied octets of the input that follow each
