@@ -85,7 +85,8 @@ ADDED = {
     ],
     "the record of Java": [
         " * @param note a note, as {@link AlgorithmIdentifier#oid}; null if it is absent",
-        "public record Accuracy(BigInteger seconds, Integer millis, Integer micros, BigInteger note) {}",
+        "public record Accuracy(", "        @Nullable BigInteger seconds,", "        @Nullable Integer millis,", "        @Nullable Integer micros,",
+        "        @Nullable BigInteger note) {}",
     ],
     "the reader of Java": [
         "        BigInteger note = rows.has(Kind.NOTE, inner) ? rows.integer(Kind.NOTE, inner) : null;",
