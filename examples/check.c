@@ -2,7 +2,8 @@
 
        ./check MESSAGE [DOCUMENT]
 
-   The document is used only if the message does not have its content itself. No signature is verified: F18 says so. The exit status is
+   The document is used only if the message does not have its content itself. No signature is verified: F18 says so, and if a signer has no
+   signed attributes, only its signature says whether the document is the one that was signed. The exit status is
    0 if no other rule is broken, 1 if one is, 2 if the words are wrong, 3 if the message is refused, 4 if a file cannot be read, and 5 if
    there is not enough memory. */
 

@@ -84,7 +84,7 @@ def version_number() -> int:
 def version_in_c() -> Iterator[str]:
     yield "/* The release of this header. */"
     yield f'#define CMS_CANON_VERSION "{version()}"'
-    yield "/* The same as one number: 10,000 times the first number, 100 times the second, and the third. */"
+    yield "/* The same as one number: 10,000 times the first number, plus 100 times the second, plus the third. */"
     yield f"#define CMS_CANON_VERSION_NUMBER {version_number()}"
 
 

@@ -35,7 +35,7 @@ HEAD = re.compile(rf"\A{COMMENT}", re.S)
 CALL = re.compile(rf"^{COMMENT}((?:void|uint32_t|static inline const char \*)\s?(cms_canon_\w+)\([^()]*\))[;\n]", re.S | re.M)
 TYPE = re.compile(rf"^{COMMENT}((?:enum|struct) cms_canon_\w+) \{{\n(.*?)^\}};", re.S | re.M)
 CONSTANT = re.compile(rf"^{COMMENT}#define (CMS_CANON_\w+) (\S+)\n", re.S | re.M)
-MEMBER = re.compile(r"^    ((?:\w+ )?\w+(?:\[\d+\])?)(?: = (\w+))?[;,]? *(?:/\*((?:(?!\*/).)*)\*/)?$", re.S | re.M)
+MEMBER = re.compile(r"^    ((?:\w+ ){0,2}\w+(?:\[\d+\])?)(?: = (\w+))?[;,]? *(?:/\*((?:(?!\*/).)*)\*/)?$", re.S | re.M)
 
 
 class Item(NamedTuple):
@@ -113,7 +113,19 @@ def page_of(call: Item) -> Iterator[str]:
     yield from title(call.name, SHORT[call.name])
     yield from (".SH SYNOPSIS", ".nf", ".B #include <cms_canon.h>", ".PP", ".ft B", *prototype(call.declared), ".ft R", ".fi", ".SH DESCRIPTION")
     yield from described(call.comment)
-    yield from (".SH SEE ALSO", ".BR cms_canon (3),", ".BR cms\\-canon (1)")
+    named = sorted({it for it in re.findall(r"\bcms_canon_\w+\b", call.comment) if it in SHORT} - {call.name})
+    yield from (".SH RETURN VALUE", *returned(call.declared))
+    yield from (".SH SEE ALSO", ".BR cms_canon (3),", *(f".BR {it} (3)," for it in named), ".BR cms\\-canon (1)")
+
+
+def returned(declared: str) -> Iterator[str]:
+    """Gives what a call returns: a number, a string, or nothing but what its last argument says."""
+    if "cms_canon_outcome *outcome" in declared or "cms_canon_many *many" in declared:
+        yield "None: the outcome has the status, and why a message is refused."
+        yield "All statuses and reasons, and the types of the other arguments, are in"
+        yield ".BR cms_canon (3)."
+    else:
+        yield "As above." if not declared.startswith("void") else "None: the last argument says what was found."
 
 
 def members(body: str) -> Iterator[str]:

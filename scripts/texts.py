@@ -210,7 +210,11 @@ def findings_in_c() -> Iterator[str]:
 
 
 def reasons_in_c() -> Iterator[str]:
-    yield from cases_in_c((it.number, f"{it.means} {it.remedy}") for it in [*WHY, *LACKS])
+    usual = PLACES[0]  # what it usually is near the beginning
+    place = re.search(r"at \d+ to \d+", usual.where)[0]
+    hint = f"If it is refused {place}, {usual.means.partition('. ')[0].replace('It is', 'it is')}: decode it first."
+    for it in [*WHY, *LACKS]:
+        yield from cases_in_c([(it.number, f"{it.means} {it.remedy}" + (f" {hint}" if it.number in usual.refusals and it.number > 1 else ""))])
 
 
 def python_texts() -> Iterator[str]:

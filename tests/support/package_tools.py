@@ -17,7 +17,7 @@ BINARIES = DIST / "x86_64-linux"  # of this machine
 PACKAGES = DIST / "packages"
 FIX = "run scripts/release --packages and commit dist/"
 # What packages are made of, beside the binaries.
-PARTS = ("CHANGELOG.md", "LICENSE-APACHE", "LICENSE-MIT", "archive", "bindings", "crates.txt", "docs", "examples", "packaging", "scripts", "web")
+PARTS = ("CHANGELOG.md", "LICENSE-APACHE", "LICENSE-MIT", "README.md", "archive", "bindings", "crates.txt", "docs", "examples", "packaging", "scripts", "web")
 VERSION = re.search(r"^version: (.*)$", (BINARIES / "MANIFEST").read_text(encoding="ascii"), re.M)[1]
 CHANGELOG = (TOP / "CHANGELOG.md").read_text(encoding="utf-8")
 DATED = re.search(rf"^## {re.escape(VERSION)} - (.*)$", CHANGELOG, re.M)
