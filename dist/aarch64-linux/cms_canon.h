@@ -15,7 +15,7 @@
  * A `reason` above 100, which only cms_canon_cover, cms_canon_tst_info_fields and cms_canon_check_digests give, has no `at`. The line of
  * the command is then "refused: %s", with `name`.
  *
- * Each call works on the memory that it is handed alone. It keeps nothing and has no global state, so any number of threads
+ * Each call works only on the memory that it is handed. It keeps nothing and has no global state, so any number of threads
  * may call at once, with outputs and outcomes of their own. It takes working memory by malloc and frees it before it returns:
  * no memory that it allocates is handed out, and none that the caller allocated is freed.
  *
@@ -43,20 +43,20 @@ extern "C" {
 /* The version: scripts/generate writes this from crates/cms_cli/src/task.rt */
 /* The release of this header. */
 #define CMS_CANON_VERSION "0.27.0"
-/* The same as one number: 10,000 times the first number, 100 times the second, and the third. */
+/* The same as one number: 10,000 times the first number, plus 100 times the second, plus the third. */
 #define CMS_CANON_VERSION_NUMBER 2700
 /* the end of the version */
 
 /*
- * Returns the release of the library that the program runs with, as one number: if it is CMS_CANON_VERSION_NUMBER, it is that of the
- * header.
+ * Returns the release of the library that the program runs with, as one number like CMS_CANON_VERSION_NUMBER. A library with a larger number
+ * and the same name for the loader has all that this header declares; one with a smaller number may lack calls.
  */
 uint32_t cms_canon_version(void);
 
 /* The limit of the command, in octets: 256 MiB. A limit may be at most 2^40; a larger one counts as 2^40. */
 #define CMS_CANON_LIMIT UINT64_C(268435456)
 
-/* The octets of stack that suffice for a thread whose own functions take few: 64 KiB, of which a call takes about 48. */
+/* The octets of stack that suffice for a thread whose own functions take few: 64 KiB, of which a call takes about 48 KiB. */
 #define CMS_CANON_STACK 65536
 
 /* The values of `status`. All but the last are those of the command. */
@@ -69,7 +69,7 @@ enum cms_canon_status {
     CMS_CANON_ROOM_TOO_SMALL = 6  /* `octets` says how much room is needed; nothing was written: call again with more */
 };
 
-/* The values of `reason`: 1 to 19 stand for E1 to E19 (docs/FORMATS.md), and these say why there is no cover or TSTInfo, or why
+/* The values of `reason`: 1 to 19 stand for E1 to E19 (cms-canon(1)), and these say why there is no cover or TSTInfo, or why
  * digests do not suffice. */
 enum cms_canon_reason {
     CMS_CANON_NO_SIGNED_DATA = 101, /* the message is a request, or a response without a token */
@@ -105,14 +105,17 @@ static inline const char *cms_canon_reason_text(uint32_t reason)
                "length, `cms-canon-archive convert --limit` longer messages, and a program of your own can give a larger "
                "limit.";
     case 3: return "A length is malformed. Get the message again: it is damaged, or was badly made.";
-    case 4: return "A length is malformed. Get the message again: it is damaged, or was badly made.";
+    case 4:
+        return "A length is malformed. Get the message again: it is damaged, or was badly made. If it is refused at 2 to 4, it"
+               " is usually text, such as PEM or S/MIME: decode it first.";
     case 5: return "A length is malformed. Get the message again: it is damaged, or was badly made.";
     case 6:
         return "An element is longer than what is left of the one around it. Get the message again: it is damaged, or was "
-               "badly made.";
+               "badly made. If it is refused at 2 to 4, it is usually text, such as PEM or S/MIME: decode it first.";
     case 7:
         return "An element is missing, or is not allowed here, or an identifier is malformed. Get the message again: it is "
-               "damaged, or was badly made.";
+               "damaged, or was badly made. If it is refused at 2 to 4, it is usually text, such as PEM or S/MIME: decode it "
+               "first.";
     case 8: return "An INTEGER is empty, or longer than it has to be. Only the maker of the message can fix it.";
     case 9:
         return "An OBJECT IDENTIFIER is empty, or one of its numbers begins with 80 or does not end. Only the maker of the "
@@ -173,7 +176,7 @@ void cms_canon_convert(const uint8_t *input, size_t input_length, uint64_t limit
 
 /* What became of messages one after another. */
 struct cms_canon_many {
-    struct cms_canon_outcome outcome;
+    struct cms_canon_outcome outcome; /* what became of all, as of a single message */
     uint64_t messages; /* how many messages were accepted, and so also the number of the one that is refused, from 0 */
     uint64_t read;     /* how many octets of the input these have, and so also where the one that is refused begins */
 };
@@ -247,7 +250,7 @@ void cms_canon_extent(const uint8_t *input, size_t input_length, uint64_t limit,
  *
  * If the content of the message is detached, it is handed in as the `content_length` octets at `content`, with `has_content`
  * true. If the signer has signed attributes, or the message has its content itself, `content` is not used. If `has_content` is
- * false, `content` may point to anything and `content_length` be 0.
+ * false, `content` may be any pointer but NULL, and `content_length` be 0.
  *
  * The message and its DER may have at most `limit` octets each. The content is not limited.
  *
@@ -308,17 +311,17 @@ static inline const char *cms_canon_finding_text(uint32_t code)
 /*
  * Writes the rules that the message at `input` breaks to the array `findings`, which has room for `findings_room` of them.
  * `octets` of the outcome says how many findings there are, and not octets. Those for the message come first, and then those
- * for each signer in the order read; both are ordered by their codes. 0 findings is the answer for a message that breaks no
- * rule, and has no signature that covers anything.
+ * for each signer in the order read; both are ordered by their codes. There are none for a message that breaks no rule, and has
+ * no signature that covers anything.
  *
- * No signature is verified: there is a finding of code 18 for each signer whose signature covers anything. It stands for the
- * verdict of a verifier that cannot tell. A caller that verifies drops it if the signature is right, and puts one of code 17 in
+ * No signature is verified: there is a finding of code 18 for each signer whose signature covers anything, which is what a verifier
+ * that cannot say whether it is right comes to. If a signer has no signed attributes, nothing else says whether the content fits. A caller that verifies drops it if the signature is right, and puts one of code 17 in
  * its place if the signature is wrong: cms_canon_fields says where what it needs is, and what the signature covers.
  *
  * If the content of the message is detached, it is handed in as the `content_length` octets at `content`, with `has_content`
  * true. If the message has its content itself, `content` is not used. The data that were time-stamped are the `data_length`
  * octets at `data`, with `has_data` true: the message then has to be a time-stamp token for them, a response with such a token,
- * or a request for one. If `has_content` or `has_data` is false, its pointer may point to anything and its length be 0.
+ * or a request for one. If `has_content` or `has_data` is false, its pointer may be any but NULL, and its length be 0.
  *
  * The message and its DER may have at most `limit` octets each. Content and data are not limited; if they do not fit into memory,
  * cms_canon_check_digests takes digests of them.
@@ -381,7 +384,7 @@ void cms_canon_digests_asked(const uint8_t *input, size_t input_length, uint64_t
  * If the content of the message is detached, the `content_count` digests at `content` are of it, with `has_content` true. If the message
  * has its content itself, they are not used. The `data_count` digests at `data` are of the data that were time-stamped, with `has_data`
  * true, and the message then has to be a time-stamp token for them, a response with such a token, or a request for one. If `has_content`
- * or `has_data` is false, its pointer may point to anything and its count be 0. More digests may be given than are asked for, in any
+ * or `has_data` is false, its pointer may be any but NULL, and its count be 0. More digests may be given than are asked for, in any
  * order. The first one by an algorithm counts, and one by an algorithm that is not known here is not used.
  *
  * If the content is needed itself and `has_content` is true, the call is refused as `needs the content` (CMS_CANON_NEEDS_CONTENT);
