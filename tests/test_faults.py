@@ -251,7 +251,7 @@ def judge_c(folder):
     messages = [octets_of(EVERY[name], "input").hex() for name in ROWS]
     requests = ("convert {0} {1}", "show {0} {1}", "many {0} {1}{1}", "same {0} {1} {1}", "check {0} {1} - - unknown")
     asked = [request.format(LIMIT, octets) for octets in messages for request in requests]
-    asked += [f"cover {LIMIT} {messages[2]} 0 616263", f"part {LIMIT} {messages[2]} 0 1"]
+    asked.append(f"cover {LIMIT} {messages[2]} 0 616263")
     path = path_of(folder, "".join(f"{line}\n" for line in asked).encode())
     answer = Path(folder, "answer")
     os.symlink(RELEASE / "libcms_canon.so", Path(folder, "libcms_canon.so.1"))
