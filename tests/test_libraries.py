@@ -133,7 +133,7 @@ def test_small_stack(c, tally):
 @needs("nm")
 def test_symbols(tally):
     """The names that a program sees of the libraries are those of the calls in the header."""
-    calls = sorted(re.findall(r"^void (\w+)\(", (RELEASE / "cms_canon.h").read_text(), re.M))
+    calls = sorted(re.findall(r"^(?:void|uint32_t) (\w+)\(", (RELEASE / "cms_canon.h").read_text(), re.M))
     for library, words in (("libcms_canon.a", []), ("libcms_canon.so", ["--dynamic"])):
         lines = run(["nm", "--extern-only", "--defined-only", "--format=posix", *words, RELEASE / library]).splitlines()
         names = sorted(it.split()[0] for it in lines if " " in it)
