@@ -218,6 +218,7 @@ def test_installation(tally, tmp_path):
         words = ended.stdout.decode().split()
         tally.count(name, why_not_done(ended) or differing(removed, len({*words} & INSTALLED)))
         tally.count(f"{name}: files", differing(set(), files_below(prefix)))
+        tally.count(f"{name}: the folder of its own", "it is left" if (prefix / "lib" / "cmake" / "cms_canon").exists() else "")
         tally.count(f"{name}: one line", differing(1, len(ended.stdout.splitlines())))
 
 
