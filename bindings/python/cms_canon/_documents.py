@@ -88,6 +88,8 @@ def _pieces_read(read: Callable[[int], bytes]) -> Iterator[memoryview]:
 
 def _piece_of(octets: Octets) -> memoryview:
     """Returns a view of the octets, or of a copy if they could change, or are not one after another."""
+    if isinstance(octets, str):
+        raise TypeError("a document is octets, not text: open its file in binary, as by open(path, 'rb')")
     view = memoryview(octets)
     return view if type(view.obj) is bytes and view.c_contiguous else memoryview(bytes(view))
 

@@ -305,6 +305,13 @@ class Refusals(unittest.TestCase):
                 call()
 
 
+class TextDocuments(unittest.TestCase):
+    def test_a_document_opened_as_text(self):
+        for document in (io.StringIO("content"), ["content"]):
+            with self.assertRaisesRegex(TypeError, "^a document is octets, not text: open its file in binary"):
+                cms_canon.check(detached(sha256(b"content").digest()), document)
+
+
 class Imports(unittest.TestCase):
     def test_what_is_public(self):
         self.assertEqual(dir(cms_canon), sorted(cms_canon.__all__))
